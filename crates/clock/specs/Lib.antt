@@ -1,0 +1,4 @@
+pub mod Steps
+pub mod Triggers
+pub mod Machine
+pub mod Demand3

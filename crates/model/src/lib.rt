@@ -1,0 +1,43 @@
+// The project's tables and the state, by value, and what the Rust says of one node, one link and one pattern.
+// Files carry the names of the Rust's. Entries past the counts are blank.
+mod control;
+mod link;
+mod node;
+mod options;
+mod pattern;
+mod project;
+mod rule;
+mod state;
+
+pub use control::Control;
+pub use control::ControlCondition;
+pub use control::SettingAction;
+pub use control::StatusAction;
+pub use link::CLOSED;
+pub use link::FIXED_CLOSED;
+pub use link::Link;
+pub use link::LinkType;
+pub use link::TEMP_CLOSED;
+pub use node::Demand;
+pub use node::Demands;
+pub use node::Junction;
+pub use node::Node;
+pub use node::NodeType;
+pub use node::Reservoir;
+pub use options::Options;
+pub use pattern::PatternIndex;
+pub use pattern::multiplier_at;
+pub use pattern::period;
+pub use project::Counts;
+pub use project::Project;
+pub use rule::ConditionValue;
+pub use rule::LinkAttribute;
+pub use rule::NodeAttribute;
+pub use rule::Premise;
+pub use rule::RuleConditionOperator;
+pub use rule::RuleConditionTarget;
+pub use rule::SystemAttribute;
+pub use rule::TankAttribute;
+pub use state::LinkState;
+pub use state::NodeState;
+pub use state::State;

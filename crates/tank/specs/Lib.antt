@@ -1,0 +1,2 @@
+pub mod Tanks
+pub mod Ranges
