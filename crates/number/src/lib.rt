@@ -14,3 +14,4 @@ pub use order::within;
 pub use seconds::round_to_u64;
 pub use seconds::u64_to_f64;
 pub use words::from_words;
+pub use words::to_bits;
