@@ -8,7 +8,7 @@ use lib.Dec.{ltb, eqb}
 use Rattle.number.specs.Constants.{MAX}
 use Rattle.clock.specs.declared.length.Times.{Times}
 use Rattle.clock.specs.Steps.{DAY}
-use Rattle.clock.specs.Triggers.{Trigger, atTime, atClock, atLevel, untimed, Moment, lengthAt}
+use Rattle.clock.specs.Triggers.{Trigger, atTime, atClock, atLevel, untimed, lengthAt}
 use Rattle.clock.specs.Machine.{Machine, bit, final, Along, asked, answered, moved, stateSteps}
 
 -- ---- the numbers of the bound

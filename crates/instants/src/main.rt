@@ -87,7 +87,15 @@ fn due(condition: ControlCondition, time: u32, clock: u64) -> u64 {
         demand: 0.0,
         demand_flow: 0.0,
     };
-    candidate(condition, Node::blank(), state, time, clock)
+    let junction = Junction {
+        disabled: false,
+        elevation: 0.0,
+        demands: Demands::NoDemand,
+    };
+    let node = Node {
+        kind: NodeType::Junction(junction),
+    };
+    candidate(condition, node, state, time, clock)
 }
 
 fn controls() {

@@ -1,6 +1,4 @@
 // The types of `control.rs`.
-ghost use mathlib.Core.Path.{_≡_};
-ghost use Rattle.model.specs.Blank.{blankControl};
 
 // Targets are in feet above the node's elevation, times in seconds.
 pub enum ControlCondition {
@@ -29,21 +27,4 @@ pub struct Control {
     pub link: usize,
     pub status: StatusAction,
     pub setting: SettingAction,
-}
-
-impl Control {
-    // The filler of the table.
-    pub fn blank() -> Control
-        ensures { λ r. ⌜ r ≡ blankControl ⌝ }
-    {
-        Control {
-            condition: ControlCondition::HighPressure {
-                node: 0,
-                target: 0.0 / 0.0,
-            },
-            link: 0,
-            status: StatusAction::KeepStatus,
-            setting: SettingAction::KeepSetting,
-        }
-    }
 }

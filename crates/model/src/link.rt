@@ -1,6 +1,5 @@
 // `link.rs`, `pipe.rs`, `pump.rs`, `valve.rs`.
 ghost use mathlib.Core.Path.{_≡_};
-ghost use Rattle.model.specs.Blank.{blankLink};
 ghost use Rattle.model.specs.Links.{initialFlow, initialSetting};
 use number::constants::PI;
 use number::constants::Q_ZERO;
@@ -66,20 +65,6 @@ impl Link {
                 diameter: _,
                 setting,
             } => setting,
-        }
-    }
-
-    // The filler of the table.
-    pub fn blank() -> Link
-        ensures { λ r. ⌜ r ≡ blankLink ⌝ }
-    {
-        Link {
-            start: 0,
-            end: 0,
-            initial_status: 0,
-            kind: LinkType::Pipe {
-                diameter: 0.0 / 0.0,
-            },
         }
     }
 }

@@ -1,6 +1,5 @@
 // `node.rs`, `reservoir.rs`, `junction.rs`, `demand.rs`.
 ghost use mathlib.Core.Path.{_≡_};
-ghost use Rattle.model.specs.Blank.{blankNode};
 ghost use Rattle.model.specs.Nodes.{elevation, initialHead, isTank, isJunction};
 use crate::pattern::PatternIndex;
 use tank::Tank;
@@ -82,19 +81,6 @@ impl Node {
             NodeType::Reservoir(_) => false,
             NodeType::Tank(_) => false,
             NodeType::Junction(_) => true,
-        }
-    }
-
-    // The filler of the table.
-    pub fn blank() -> Node
-        ensures { λ r. ⌜ r ≡ blankNode ⌝ }
-    {
-        let reservoir = Reservoir {
-            elevation: 0.0 / 0.0,
-            head_pattern: PatternIndex::NoPattern,
-        };
-        Node {
-            kind: NodeType::Reservoir(reservoir),
         }
     }
 }

@@ -1,12 +1,23 @@
 // The tables of a project.
 ghost use mathlib.Core.Path.{_≡_};
-ghost use Rattle.model.specs.Blank.{emptyProject};
+ghost use Rattle.model.specs.Blank.{blankNode, blankLink, blankControl, blankPremise, emptyProject};
 use crate::control::Control;
+use crate::control::ControlCondition;
+use crate::control::SettingAction;
+use crate::control::StatusAction;
 use crate::link::Link;
+use crate::link::LinkType;
 use crate::node::Node;
+use crate::node::NodeType;
+use crate::node::Reservoir;
 use crate::options::Options;
 use crate::pattern::PatternIndex;
+use crate::rule::ConditionValue;
+use crate::rule::NodeAttribute;
 use crate::rule::Premise;
+use crate::rule::RuleConditionOperator;
+use crate::rule::RuleConditionTarget;
+use number::ComparisonOperator;
 
 pub struct Counts {
     pub patterns: usize,
@@ -26,6 +37,57 @@ pub struct Project {
     pub links: [Link; 384],
     pub controls: [Control; 64],
     pub premises: [Premise; 128],
+}
+
+// The fillers of the tables.
+fn blank_node() -> Node
+    ensures { λ r. ⌜ r ≡ blankNode ⌝ }
+{
+    let reservoir = Reservoir {
+        elevation: 0.0 / 0.0,
+        head_pattern: PatternIndex::NoPattern,
+    };
+    Node {
+        kind: NodeType::Reservoir(reservoir),
+    }
+}
+
+fn blank_link() -> Link
+    ensures { λ r. ⌜ r ≡ blankLink ⌝ }
+{
+    Link {
+        start: 0,
+        end: 0,
+        initial_status: 0,
+        kind: LinkType::Pipe {
+            diameter: 0.0 / 0.0,
+        },
+    }
+}
+
+fn blank_control() -> Control
+    ensures { λ r. ⌜ r ≡ blankControl ⌝ }
+{
+    Control {
+        condition: ControlCondition::HighPressure {
+            node: 0,
+            target: 0.0 / 0.0,
+        },
+        link: 0,
+        status: StatusAction::KeepStatus,
+        setting: SettingAction::KeepSetting,
+    }
+}
+
+fn blank_premise() -> Premise
+    ensures { λ r. ⌜ r ≡ blankPremise ⌝ }
+{
+    Premise {
+        operator: RuleConditionOperator::Or,
+        target: RuleConditionTarget::Node(0, NodeAttribute::Demand),
+        comparison: ComparisonOperator::Eq,
+        value: ConditionValue::Number(0.0 / 0.0),
+    }
 }
 
 impl Project {
@@ -57,10 +119,10 @@ impl Project {
             counts: counts,
             lengths: [0; 32],
             multipliers: [0.0 / 0.0; 5376],
-            nodes: [Node::blank(); 256],
-            links: [Link::blank(); 384],
-            controls: [Control::blank(); 64],
-            premises: [Premise::blank(); 128],
+            nodes: [blank_node(); 256],
+            links: [blank_link(); 384],
+            controls: [blank_control(); 64],
+            premises: [blank_premise(); 128],
         }
     }
 }

@@ -1,6 +1,4 @@
 // The types of `rule.rs`. A premise is its `RuleCondition`.
-ghost use mathlib.Core.Path.{_≡_};
-ghost use Rattle.model.specs.Blank.{blankPremise};
 use number::ComparisonOperator;
 
 pub enum NodeAttribute {
@@ -51,18 +49,4 @@ pub struct Premise {
     pub target: RuleConditionTarget,
     pub comparison: ComparisonOperator,
     pub value: ConditionValue,
-}
-
-impl Premise {
-    // The filler of the table.
-    pub fn blank() -> Premise
-        ensures { λ r. ⌜ r ≡ blankPremise ⌝ }
-    {
-        Premise {
-            operator: RuleConditionOperator::Or,
-            target: RuleConditionTarget::Node(0, NodeAttribute::Demand),
-            comparison: ComparisonOperator::Eq,
-            value: ConditionValue::Number(0.0 / 0.0),
-        }
-    }
 }

@@ -37,7 +37,7 @@ smaller-positive-requires-5 c κs = search needs
 
 returns-2 : tie.Need-returns-2
 unfolding calculateTimeStep smallestPositive
-returns-2 c = rw (c .before .before .before .before .before .before .before .before .if1 .left, ← c .before .before .before .before .before .before .smaller-positive .ensures, ← c .before .before .before .before .before .smaller-positive2 .ensures, ← c .before .before .before .before .smaller-positive3 .ensures, ← c .before .before .before .time-to-next .ensures, ← c .before .before .smaller-positive4 .ensures, ← c .before .time-to-next2 .ensures, ← c .smaller-positive5 .ensures)
+returns-2 c = rw (c .before .before .before .before .before .before .before .before .if1 .left) cc
 
 pub calculate-time-step-spec : {M : Type 1} → statement M
 calculate-time-step-spec =

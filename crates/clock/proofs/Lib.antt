@@ -1,0 +1,8 @@
+-- Laws of the definitions, and demand 3.
+pub mod Tests
+pub mod Smallest
+pub mod Lengths
+pub mod Advanced
+pub mod Bound
+pub mod Demand3
+pub mod Bare
