@@ -13,7 +13,7 @@ pub enum ControlCondition {
 // The Rust's `Option<LinkStatus>`.
 pub enum StatusAction {
     KeepStatus,
-    SetStatus(u8),
+    SetStatus(u32),
 }
 
 // The Rust's `Option<f64>`.

@@ -5,11 +5,11 @@ use number::constants::PI;
 use number::constants::Q_ZERO;
 
 // Statuses are 0 to 9 in `LinkStatus` order; these three are named.
-pub const TEMP_CLOSED: u8 = 1;
+pub const TEMP_CLOSED: u32 = 1;
 
-pub const CLOSED: u8 = 2;
+pub const CLOSED: u32 = 2;
 
-pub const FIXED_CLOSED: u8 = 9;
+pub const FIXED_CLOSED: u32 = 9;
 
 // Diameters in feet, flows in cubic feet per second.
 pub enum LinkType {
@@ -22,7 +22,7 @@ pub enum LinkType {
 pub struct Link {
     pub start: usize,
     pub end: usize,
-    pub initial_status: u8,
+    pub initial_status: u32,
     pub kind: LinkType,
 }
 

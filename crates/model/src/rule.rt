@@ -35,7 +35,7 @@ pub enum RuleConditionTarget {
 
 pub enum ConditionValue {
     Number(f64),
-    Status(u8),
+    Status(u32),
     Time(u32),
 }
 

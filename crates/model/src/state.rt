@@ -13,7 +13,7 @@ pub struct NodeState {
 // `status` is 0 to 9, in `LinkStatus` order.
 pub struct LinkState {
     pub flow: f64,
-    pub status: u8,
+    pub status: u32,
     pub setting: f64,
 }
 

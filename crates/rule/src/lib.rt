@@ -39,7 +39,7 @@ fn time_truth(c: ComparisonOperator, x: f64, v: ConditionValue) -> bool
     }
 }
 
-fn compare_status(c: ComparisonOperator, lhs: u8, rhs: u8) -> bool
+fn compare_status(c: ComparisonOperator, lhs: u32, rhs: u32) -> bool
     ensures { λ r. ⌜ r ≡ compareStatus c lhs rhs ⌝ }
 {
     match c {
@@ -53,7 +53,7 @@ fn compare_status(c: ComparisonOperator, lhs: u8, rhs: u8) -> bool
 }
 
 // Against a status only.
-fn status_truth(c: ComparisonOperator, x: u8, v: ConditionValue) -> bool
+fn status_truth(c: ComparisonOperator, x: u32, v: ConditionValue) -> bool
     ensures { λ r. ⌜ r ≡ statusTruth c x v ⌝ }
 {
     match v {
