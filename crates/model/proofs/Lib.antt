@@ -1,3 +1,5 @@
 -- Laws that belong to no one function.
+pub mod Each
 pub mod Keeps
 pub mod Loops
+pub mod Pointwise

@@ -1,0 +1,24 @@
+// The words of a payload.
+ghost use mathlib.Core.Path.{_≡_};
+ghost use Rattle.entries.specs.Words.{word, patternIndexOf};
+use model::PatternIndex;
+
+// The word at a place; 0 past the end.
+pub fn word(p: &[u32], i: usize) -> u32
+    ensures { λ r. ⌜ r ≡ word (now (p .entry)) i ⌝ }
+{
+    if i < p.len() {
+        return p[i];
+    }
+    0
+}
+
+// The pattern that a word names.
+pub fn pattern_index_of(w: u32) -> PatternIndex
+    ensures { λ r. ⌜ r ≡ patternIndexOf w ⌝ }
+{
+    if w == 0 {
+        return PatternIndex::NoPattern;
+    }
+    PatternIndex::PatternAt((w - 1) as usize)
+}

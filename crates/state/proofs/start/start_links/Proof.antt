@@ -1,0 +1,63 @@
+-- `state::start::start_links` meets its contract. Assumes nothing.
+use Prim.Native.Nat.{_-_}
+use mathlib.Core.Path.{refl}
+use native.Mathlib.Omega.{arith}
+use Rattle.model.proofs.Loops.{Ran, begun, turned, ended}
+use Rattle.state.specs.Start.{linkStarted, startLinks}
+use borrow.Author.Needs.{needs}
+use Rattle.state.proofs.start.start_links.Statement.{statement}
+use Rattle.state.proofs.start.start_links.Tie as tie
+
+abbrev Inv-loop : tie.InvT-loop
+Inv-loop p st₀ n i₀ st i = Ran n (linkStarted p) st₀ i st
+
+abbrev μ-loop : tie.MeasureT-loop
+μ-loop p st₀ n i₀ st i = n - i
+
+loop-holds : tie.Need-loop-holds Inv-loop μ-loop
+loop-holds c = begun
+
+mul-start-link : tie.Need-mul-start-link Inv-loop μ-loop
+mul-start-link c = omega (arith, c .before .before .pre .few .links)
+
+element-copy-out-start-link : tie.Need-element-copy-out-start-link Inv-loop μ-loop
+element-copy-out-start-link c = omega (arith, c .before .before .pre .few .links)
+
+start-link-requires : tie.Need-start-link-requires Inv-loop μ-loop
+start-link-requires c κs = search needs
+
+mul-t13 : tie.Need-mul-t13 Inv-loop μ-loop
+mul-t13 c = omega (arith, c .before .before .before .before .pre .few .links)
+
+element-set-from-st : tie.Need-element-set-from-st Inv-loop μ-loop
+element-set-from-st c = omega (arith, c .before .before .before .before .pre .few .links)
+
+add-i : tie.Need-add-i Inv-loop μ-loop
+add-i c = omega (arith, c .before .before .before .before .pre .few .links)
+
+loop-less : tie.Need-loop-less Inv-loop μ-loop
+loop-less c = search needs
+
+loop-again : tie.Need-loop-again Inv-loop μ-loop
+loop-again c = turned (c .before .before .before .loop .inv) (search needs) (rw (c .start-link .ensures))
+
+returns : tie.Need-returns Inv-loop μ-loop
+unfolding startLinks
+returns c = ended (c .before .loop .inv) (c .loop-test .left) refl
+
+pub start-links-spec : {M : Type 1} → statement M
+start-links-spec =
+    tie.close
+    (tie.spec
+    Inv-loop
+    μ-loop
+    loop-holds
+    mul-start-link
+    element-copy-out-start-link
+    start-link-requires
+    mul-t13
+    element-set-from-st
+    add-i
+    loop-less
+    loop-again
+    returns)

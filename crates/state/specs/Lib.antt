@@ -1,0 +1,5 @@
+pub mod Start
+pub mod Patterns
+pub mod Controls
+pub mod Tanks
+pub mod Inflow

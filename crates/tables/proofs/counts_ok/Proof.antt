@@ -1,0 +1,11 @@
+-- `tables::counts_ok` meets its contract. The result is the definition, test by test. Assumes nothing.
+use Rattle.tables.specs.Tables.{countsOk}
+use Rattle.tables.proofs.counts_ok.Statement.{statement}
+use Rattle.tables.proofs.counts_ok.Tie as tie
+
+returns : tie.Need-returns
+unfolding countsOk
+returns c = cc
+
+pub counts-ok-spec : {M : Type 1} → statement M
+counts-ok-spec = tie.close (tie.spec returns)
