@@ -1,0 +1,66 @@
+-- The public calls. "every later call, first: 10"; "a refused call yields the number and the same state, and lent words are only read. A refused
+-- premise yields no truth."
+use Prim.Native.Nat.{ℕ}
+use mathlib.Core.Bool.{Bool, true, false, cond}
+use mathlib.Core.List.{List, [], _∷_}
+use lib.Dec.{eqb, ltb}
+use Rattle.model.specs.Blank.{blankState}
+use Rattle.model.specs.declared.project.Project.{Project}
+use Rattle.model.specs.declared.state.State.{State}
+use Rattle.tables.specs.Tables.{tablesOk}
+use Rattle.judge.specs.Judgement.{inOrder}
+use Rattle.state.specs.Start.{newWithInitialValues}
+use Rattle.state.specs.Patterns.{applyPatterns}
+use Rattle.state.specs.Controls.{applyControls}
+use Rattle.load.specs.Loads.{loadFault, takeLoad}
+use Rattle.solver.specs.Closing.{updateTankLinks}
+use Rattle.solver.specs.Pressure.{applyPressureControls}
+use Rattle.premise.specs.Premise.{premiseTruthAt}
+use Rattle.calls.specs.declared.Called.{Called}
+use Rattle.calls.specs.declared.PressureCalled.{PressureCalled}
+use Rattle.calls.specs.declared.PremiseAnswer.{PremiseAnswer}
+use Rattle.calls.specs.declared.PremiseAnswer.the-variants.{Truth, Refused}
+
+-- a call's answer: the number and the state
+abbrev pub gives : ℕ → State → Called
+gives n s = record { number = n; state = s }
+
+-- the start, on tables that fit; else 10, and a state with nothing in it
+unfoldable pub start : Project → Called
+start p = cond (tablesOk p) (gives 0 (newWithInitialValues p)) (gives 10 blankState)
+
+-- what a call makes of a state, where number 10 is not given; else 10 and the same state
+unfoldable pub judged : Project → State → Called → Called
+judged p s answer = cond (inOrder p s) answer (gives 10 s)
+
+unfoldable pub patterns : Project → State → Called
+patterns p s = judged p s (gives 0 (applyPatterns p s))
+
+unfoldable pub controls : Project → State → Called
+controls p s = judged p s (gives 0 (applyControls p s))
+
+-- 7 and 8, then the load
+unfoldable pub load : Project → List ℕ → State → Called
+load p words s = judged p s (cond (eqb (loadFault p words) 0) (gives 0 (takeLoad p words s)) (gives (loadFault p words) s))
+
+unfoldable pub tankLinks : Project → State → Called
+tankLinks p s = judged p s (gives 0 (updateTankLinks p s))
+
+-- the pressure pass also answers whether it changed anything; refused, it changed nothing
+unfoldable pub pressure : Project → State → PressureCalled
+pressure p s =
+    let done = applyPressureControls p s in
+    cond (inOrder p s) (record { number = 0; state = done .state; changed = done .changed }) (record { number = 10; state = s; changed = false })
+
+-- 9: "no such premise"
+unfoldable pub premise : Project → ℕ → State → PremiseAnswer
+premise p i s = cond (inOrder p s) (cond (ltb i (p .counts .premises)) (Truth (premiseTruthAt p s i)) (Refused 9)) (Refused 10)
+
+-- a premise's number, 0 where it is answered, and its truth where it has one
+abbrev pub premiseNumber : PremiseAnswer → ℕ
+premiseNumber (Truth b) = 0
+premiseNumber (Refused n) = n
+
+abbrev pub premiseTruths : PremiseAnswer → List Bool
+premiseTruths (Truth b) = b ∷ []
+premiseTruths (Refused n) = []
