@@ -1,0 +1,3 @@
+-- Laws on what an accepted image yields.
+pub mod Placing
+pub mod Accepted

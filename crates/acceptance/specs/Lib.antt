@@ -1,0 +1,1 @@
+-- What acceptance says is in the specs of the crates below.
