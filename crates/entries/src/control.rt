@@ -3,13 +3,13 @@ ghost use mathlib.Core.Path.{_≡_};
 ghost use Rattle.entries.specs.Entries.{conditionOf, statusActionOf, settingActionOf, controlAt, controlWordsOk, controlEntry};
 use crate::entry::Entry;
 use crate::entry::passed;
+use crate::words::number;
 use crate::words::word;
 use model::Control;
 use model::ControlCondition;
 use model::Counts;
 use model::SettingAction;
 use model::StatusAction;
-use number::from_words;
 use records::control_indices_ok;
 use records::control_ok;
 
@@ -57,9 +57,9 @@ fn setting_action_of(present: bool, setting: f64) -> SettingAction
 fn control_at(p: &[u32]) -> Control
     ensures { λ r. ⌜ r ≡ controlAt (now (p .entry)) ⌝ }
 {
-    let target = from_words(word(p, 2), word(p, 3));
+    let target = number(p, 2);
     let flags = word(p, 5);
-    let setting = from_words(word(p, 7), word(p, 8));
+    let setting = number(p, 7);
     Control {
         condition: condition_of(word(p, 0), word(p, 1), target),
         link: word(p, 4) as usize,

@@ -3,11 +3,11 @@ ghost use mathlib.Core.Path.{_≡_};
 ghost use Rattle.entries.specs.Entries.{linkTypeOf, linkAt, linkWordsOk, linkEntry};
 use crate::entry::Entry;
 use crate::entry::passed;
+use crate::words::number;
 use crate::words::word;
 use model::Counts;
 use model::Link;
 use model::LinkType;
-use number::from_words;
 use records::link_indices_ok;
 use records::link_ok;
 
@@ -32,8 +32,8 @@ fn link_type_of(sort: u32, size: f64, setting: f64) -> LinkType
 fn link_at(p: &[u32]) -> Link
     ensures { λ r. ⌜ r ≡ linkAt (now (p .entry)) ⌝ }
 {
-    let size = from_words(word(p, 4), word(p, 5));
-    let setting = from_words(word(p, 6), word(p, 7));
+    let size = number(p, 4);
+    let setting = number(p, 6);
     Link {
         start: word(p, 0) as usize,
         end: word(p, 1) as usize,

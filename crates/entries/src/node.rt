@@ -4,6 +4,7 @@ ghost use Prim.Native.Nat.{_≤_};
 ghost use Rattle.entries.specs.Entries.{nodeEntry, reservoirAt, reservoirEntry, tankAt, tankEntry, demandAt, demandsAt, junctionAt, junctionEntry};
 use crate::entry::Entry;
 use crate::entry::passed;
+use crate::words::number;
 use crate::words::pattern_index_of;
 use crate::words::word;
 use model::Counts;
@@ -13,7 +14,6 @@ use model::Junction;
 use model::Node;
 use model::NodeType;
 use model::Reservoir;
-use number::from_words;
 use records::node_indices_ok;
 use records::node_ok;
 use tank::Feet;
@@ -35,7 +35,7 @@ fn reservoir_at(p: &[u32]) -> Reservoir
     ensures { λ r. ⌜ r ≡ reservoirAt (now (p .entry)) ⌝ }
 {
     Reservoir {
-        elevation: from_words(word(p, 0), word(p, 1)),
+        elevation: number(p, 0),
         head_pattern: pattern_index_of(word(p, 2)),
     }
 }
@@ -53,11 +53,11 @@ fn tank_at(p: &[u32]) -> Tank
     ensures { λ r. ⌜ r ≡ tankAt (now (p .entry)) ⌝ }
 {
     Tank {
-        elevation: Feet(from_words(word(p, 0), word(p, 1))),
-        initial_level: Feet(from_words(word(p, 2), word(p, 3))),
-        min_level: Feet(from_words(word(p, 4), word(p, 5))),
-        max_level: Feet(from_words(word(p, 6), word(p, 7))),
-        diameter: Feet(from_words(word(p, 8), word(p, 9))),
+        elevation: Feet(number(p, 0)),
+        initial_level: Feet(number(p, 2)),
+        min_level: Feet(number(p, 4)),
+        max_level: Feet(number(p, 6)),
+        diameter: Feet(number(p, 8)),
         overflow: word(p, 10) == 1,
     }
 }
@@ -77,7 +77,7 @@ fn demand_at(p: &[u32], i: usize) -> Demand
     ensures { λ r. ⌜ r ≡ demandAt (now (p .entry)) i ⌝ }
 {
     Demand {
-        base: from_words(word(p, i), word(p, i + 1)),
+        base: number(p, i),
         pattern: pattern_index_of(word(p, i + 2)),
     }
 }
@@ -111,7 +111,7 @@ fn junction_at(p: &[u32]) -> Junction
 {
     Junction {
         disabled: word(p, 0) == 1,
-        elevation: from_words(word(p, 1), word(p, 2)),
+        elevation: number(p, 1),
         demands: demands_at(p),
     }
 }

@@ -3,10 +3,10 @@ ghost use mathlib.Core.Path.{_≡_};
 ghost use Rattle.entries.specs.Entries.{optionsAt, optionsEntry};
 use crate::entry::Entry;
 use crate::entry::passed;
+use crate::words::number;
 use crate::words::pattern_index_of;
 use crate::words::word;
 use model::Options;
-use number::from_words;
 use records::options_ok;
 
 fn options_at(p: &[u32]) -> Options
@@ -23,7 +23,7 @@ fn options_at(p: &[u32]) -> Options
         skip: flags % 2 == 1,
         pda: flags / 2 % 2 == 1,
         default_pattern: pattern_index_of(word(p, 7)),
-        demand_multiplier: from_words(word(p, 8), word(p, 9)),
+        demand_multiplier: number(p, 8),
     }
 }
 

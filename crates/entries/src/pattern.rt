@@ -3,9 +3,8 @@ ghost use mathlib.Core.Path.{_≡_};
 ghost use Rattle.entries.specs.Entries.{multipliersOk, patternEntry};
 use crate::entry::Entry;
 use crate::entry::passed;
-use crate::words::word;
+use crate::words::number;
 use model::Counts;
-use number::from_words;
 use records::number_ok;
 
 fn multipliers_ok(p: &[u32]) -> bool
@@ -14,7 +13,7 @@ fn multipliers_ok(p: &[u32]) -> bool
     let n = p.len() / 2;
     let mut i = 0;
     while i < n {
-        if !number_ok(from_words(word(p, 2 * i), word(p, 2 * i + 1))) {
+        if !number_ok(number(p, 2 * i)) {
             return false;
         }
         i += 1;

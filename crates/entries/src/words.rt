@@ -1,7 +1,9 @@
 // The words of a payload.
 ghost use mathlib.Core.Path.{_≡_};
-ghost use Rattle.entries.specs.Words.{word, patternIndexOf};
+ghost use Prim.Native.Nat.{_+_, _^_, _<_};
+ghost use Rattle.entries.specs.Words.{word, number, patternIndexOf};
 use model::PatternIndex;
+use number::from_words;
 
 // The word at a place; 0 past the end.
 pub fn word(p: &[u32], i: usize) -> u32
@@ -11,6 +13,14 @@ pub fn word(p: &[u32], i: usize) -> u32
         return p[i];
     }
     0
+}
+
+// The number whose low word is at a place.
+pub fn number(p: &[u32], i: usize) -> f64
+    requires { ⌜ i + 1 < 2 ^ 64 ⌝ }
+    ensures { λ r. ⌜ r ≡ number (now (p .entry)) i ⌝ }
+{
+    from_words(word(p, i), word(p, i + 1))
 }
 
 // The pattern that a word names.

@@ -4,44 +4,32 @@ use borrow.Author.Needs.{needs}
 use Rattle.entries.proofs.control.control_at.Statement.{statement}
 use Rattle.entries.proofs.control.control_at.Tie as tie
 
+number-requires : tie.Need-number-requires
+number-requires c κs = search needs
+
 word-requires : tie.Need-word-requires
 word-requires c κs = search needs
+
+number-requires-2 : tie.Need-number-requires-2
+number-requires-2 c κs = search needs
 
 word-requires-2 : tie.Need-word-requires-2
 word-requires-2 c κs = search needs
 
-from-words-requires : tie.Need-from-words-requires
-from-words-requires c κs = search needs
-
 word-requires-3 : tie.Need-word-requires-3
 word-requires-3 c κs = search needs
-
-word-requires-4 : tie.Need-word-requires-4
-word-requires-4 c κs = search needs
-
-word-requires-5 : tie.Need-word-requires-5
-word-requires-5 c κs = search needs
-
-from-words-requires-2 : tie.Need-from-words-requires-2
-from-words-requires-2 c κs = search needs
-
-word-requires-6 : tie.Need-word-requires-6
-word-requires-6 c κs = search needs
-
-word-requires-7 : tie.Need-word-requires-7
-word-requires-7 c κs = search needs
 
 condition-of-requires : tie.Need-condition-of-requires
 condition-of-requires c κs = search needs
 
-word-requires-8 : tie.Need-word-requires-8
-word-requires-8 c κs = search needs
+word-requires-4 : tie.Need-word-requires-4
+word-requires-4 c κs = search needs
 
 cast-t9 : tie.Need-cast-t9
 cast-t9 c = search needs
 
-word-requires-9 : tie.Need-word-requires-9
-word-requires-9 c κs = search needs
+word-requires-5 : tie.Need-word-requires-5
+word-requires-5 c κs = search needs
 
 status-action-of-requires : tie.Need-status-action-of-requires
 status-action-of-requires c κs = search needs
@@ -57,19 +45,15 @@ pub control-at-spec : {M : Type 1} → statement M
 control-at-spec =
     tie.close
     (tie.spec
+    number-requires
     word-requires
+    number-requires-2
     word-requires-2
-    from-words-requires
     word-requires-3
-    word-requires-4
-    word-requires-5
-    from-words-requires-2
-    word-requires-6
-    word-requires-7
     condition-of-requires
-    word-requires-8
+    word-requires-4
     cast-t9
-    word-requires-9
+    word-requires-5
     status-action-of-requires
     setting-action-of-requires
     returns)

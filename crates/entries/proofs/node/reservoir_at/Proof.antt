@@ -4,17 +4,11 @@ use borrow.Author.Needs.{needs}
 use Rattle.entries.proofs.node.reservoir_at.Statement.{statement}
 use Rattle.entries.proofs.node.reservoir_at.Tie as tie
 
+number-requires : tie.Need-number-requires
+number-requires c κs = search needs
+
 word-requires : tie.Need-word-requires
 word-requires c κs = search needs
-
-word-requires-2 : tie.Need-word-requires-2
-word-requires-2 c κs = search needs
-
-from-words-requires : tie.Need-from-words-requires
-from-words-requires c κs = search needs
-
-word-requires-3 : tie.Need-word-requires-3
-word-requires-3 c κs = search needs
 
 pattern-index-of-requires : tie.Need-pattern-index-of-requires
 pattern-index-of-requires c κs = search needs
@@ -25,11 +19,4 @@ returns c = cc
 
 pub reservoir-at-spec : {M : Type 1} → statement M
 reservoir-at-spec =
-    tie.close
-    (tie.spec
-    word-requires
-    word-requires-2
-    from-words-requires
-    word-requires-3
-    pattern-index-of-requires
-    returns)
+    tie.close (tie.spec number-requires word-requires pattern-index-of-requires returns)

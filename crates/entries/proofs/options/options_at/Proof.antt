@@ -31,14 +31,8 @@ word-requires-8 c κs = search needs
 pattern-index-of-requires : tie.Need-pattern-index-of-requires
 pattern-index-of-requires c κs = search needs
 
-word-requires-9 : tie.Need-word-requires-9
-word-requires-9 c κs = search needs
-
-word-requires-10 : tie.Need-word-requires-10
-word-requires-10 c κs = search needs
-
-from-words-requires : tie.Need-from-words-requires
-from-words-requires c κs = search needs
+number-requires : tie.Need-number-requires
+number-requires c κs = search needs
 
 returns : tie.Need-returns
 unfolding optionsAt
@@ -57,7 +51,5 @@ options-at-spec =
     word-requires-7
     word-requires-8
     pattern-index-of-requires
-    word-requires-9
-    word-requires-10
-    from-words-requires
+    number-requires
     returns)

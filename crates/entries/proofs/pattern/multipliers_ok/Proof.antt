@@ -19,31 +19,18 @@ abbrev μ-loop : tie.MeasureT-loop
 -- a turn's test is that of the definition
 told :
     (c : tie.After-number-ok Inv-loop μ-loop) →
-    let l = c .before .before .before .before .before in
+    let l = c .before .before .before in
     multiplierOk (now (l .before .before .args .p)) (l .loop .i) ≡ c .number-ok .result
-told c =
-    rw (c .number-ok .ensures, c .before .from-words .ensures, c .before .before .word2 .ensures, c .before .before .before .word .ensures)
+told c = rw (c .number-ok .ensures, c .before .number .ensures)
 
 loop-holds : tie.Need-loop-holds Inv-loop μ-loop
 loop-holds c = held-begun
 
-mul-word : tie.Need-mul-word Inv-loop μ-loop
-mul-word c = search needs
+mul-number : tie.Need-mul-number Inv-loop μ-loop
+mul-number c = search needs
 
-word-requires : tie.Need-word-requires Inv-loop μ-loop
-word-requires c κs = search needs
-
-mul-word-2 : tie.Need-mul-word-2 Inv-loop μ-loop
-mul-word-2 c = search needs
-
-add-word : tie.Need-add-word Inv-loop μ-loop
-add-word c = search needs
-
-word-requires-2 : tie.Need-word-requires-2 Inv-loop μ-loop
-word-requires-2 c κs = search needs
-
-from-words-requires : tie.Need-from-words-requires Inv-loop μ-loop
-from-words-requires c κs = search needs
+number-requires : tie.Need-number-requires Inv-loop μ-loop
+number-requires c κs = search needs
 
 number-ok-requires : tie.Need-number-ok-requires Inv-loop μ-loop
 number-ok-requires c κs = search needs
@@ -51,8 +38,8 @@ number-ok-requires c κs = search needs
 returns : tie.Need-returns Inv-loop μ-loop
 unfolding multipliersOk
 returns c =
-    let l = c .before .before .before .before .before .before in
-    sym (held-failed _ (multiplierOk (now (l .before .before .args .p))) (l .loop .i) (c .before .before .before .before .before .loop-test .taken)
+    let l = c .before .before .before .before in
+    sym (held-failed _ (multiplierOk (now (l .before .before .args .p))) (l .loop .i) (c .before .before .before .loop-test .taken)
     (told (c .before) ∙ not-true _ (c .if1 .taken)))
 
 add-i : tie.Need-add-i Inv-loop μ-loop
@@ -62,9 +49,8 @@ loop-less : tie.Need-loop-less Inv-loop μ-loop
 loop-less c = search needs
 
 loop-again : tie.Need-loop-again Inv-loop μ-loop
-loop-again c =
-    held-turned (c .before .before .before .before .before .before .loop .inv) (c .before .before .before .before .before .loop-test .taken)
-    (told (c .before) ∙ not-false _ (c .if1 .left))
+loop-again c = held-turned (c .before .before .before .before .loop .inv) (c .before .before .before .loop-test .taken) (told
+    (c .before) ∙ not-false _ (c .if1 .left))
 
 returns-2 : tie.Need-returns-2 Inv-loop μ-loop
 unfolding multipliersOk
@@ -77,12 +63,8 @@ multipliers-ok-spec =
     Inv-loop
     μ-loop
     loop-holds
-    mul-word
-    word-requires
-    mul-word-2
-    add-word
-    word-requires-2
-    from-words-requires
+    mul-number
+    number-requires
     number-ok-requires
     returns
     add-i

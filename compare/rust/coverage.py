@@ -1,0 +1,364 @@
+#!/usr/bin/env python3
+"""Counts what generated cases reach: refusals, changes of status, closings, truths, and what cut each step.
+
+    coverage.py --oracle PATH --seed 1 --count 1000
+
+The candidates of a step are worked out a second time by steps.py, from document 01. A step that is not the smallest of
+them, or a line that begins with `panic`, ends the count with code 1; so does a thing to reach that is not reached.
+"""
+
+import argparse
+import math
+import sys
+from collections import Counter
+
+import generate
+from image import *
+from programs import Program
+from run import chunks
+from steps import NEVER, causes, control_time, tank_time
+from values import H_TOL, L_TOL, volume
+
+PRESSURE_CONDITIONS = (HIGH_PRESSURE, LOW_PRESSURE)
+LEVEL_CONDITIONS = (HIGH_LEVEL, LOW_LEVEL)
+ACTIONS = ("nothing set", "status", "setting", "status and setting")
+
+
+class State:
+    """The words after an answer, as numbers."""
+
+    def __init__(self, project, line):
+        words = [int(word, 16) for word in line.split(" ")[2:]]
+        self.instant, self.count = words[:2]
+        per_node = words[2 : 2 + 3 * len(project.nodes)]
+        per_link = words[2 + 3 * len(project.nodes) :]
+        assert len(per_link) == 3 * len(project.links), "a state with as many words as the project asks for"
+        self.heads = [float_of(bits) for bits in per_node[0::3]]
+        self.demands = [float_of(bits) for bits in per_node[1::3]]
+        self.demand_flows = [float_of(bits) for bits in per_node[2::3]]
+        self.flows = [float_of(bits) for bits in per_link[0::3]]
+        self.statuses = per_link[1::3]
+        self.settings = [float_of(bits) for bits in per_link[2::3]]
+
+
+# What a case reaches
+
+
+def count_case(counts, kind, case, answer):
+    text = answer.decode()
+    if "panic" in text:
+        sys.exit(f"a panic:\n{generate.text_of(case)}\n{text[text.index('panic'):]}")
+    lines = text.split("\n")[:-1]
+    if kind in ("image", "sweep"):
+        counts[f"{kind}: {lines[0] if lines[0].startswith('refused') else 'accepted'}"] += 1
+    elif kind == "driver":
+        counts[f"driver: {'steps' if lines[-1].startswith('steps') else lines[-1]}"] += 1
+        counts["driver: steps in all"] += max(len(lines) - 2, 0)
+    else:
+        count_replay(counts, case, lines)
+
+
+def count_replay(counts, case, lines):
+    project = case.project
+    assert lines[0].startswith("start ok"), f"a project of the generator's is refused: {lines[0]}"
+    assert len(lines) == 1 + len(case.calls), "a line for each call"
+    count_project(counts, project)
+    before = State(project, lines[0])
+    for call, line in zip(case.calls, lines[1:]):
+        after = State(project, line)
+        name, answer = line.split(" ")[:2]
+        counts[f"answer: {name} {answer if call.code != STEP_CALL else 'length'}"] += 1
+        for was, now in zip(before.statuses, after.statuses):
+            if was != now:
+                counts[f"status: {name} makes {STATUSES[now]}"] += 1
+        if call.code in COUNTERS:
+            COUNTERS[call.code](counts, project, call, answer, before, after)
+        before = after
+
+
+def count_project(counts, project):
+    options = project.options
+    junctions = [project.nodes[index] for index in project.junctions()]
+    pumps = [link for link in project.links if link.sort == PUMP]
+    counts["options: hydraulic 0" if options.hydraulic == 0 else "options: hydraulic above 0"] += 1
+    counts["options: PDA" if options.flags & PDA else "options: not PDA"] += 1
+    counts["options: default pattern" if options.default_pattern else "options: no default pattern"] += 1
+    counts["options: fast path" if project.is_on_fast_path() else "options: no fast path"] += 1
+    counts["options: skip flag without the fast path"] += bool(options.flags & SKIP) and not project.is_on_fast_path()
+    counts["nodes: disabled junctions"] += sum(junction.disabled for junction in junctions)
+    counts["nodes: junctions of four demands"] += sum(len(junction.demands) == 4 for junction in junctions)
+    counts["pumps: setting 0"] += sum(pump.setting == 0.0 for pump in pumps)
+    counts["pumps: flow not a multiple of the setting"] += sum(map(is_odd_pump, pumps))
+    counts["image: all its words used"] += len(project.words()) >= MOST_WORDS - 1
+    counts["image: largest tables"] += len(project.links) == MOST_LINKS
+
+
+def is_odd_pump(pump):
+    """The reference's product of curve flow and speed does not give the flow back."""
+    return pump.setting != 0.0 and bits_of(pump.size / pump.setting * pump.setting) != bits_of(pump.size)
+
+
+def count_patterns(counts, project, call, answer, before, after):
+    for index, node in enumerate(project.nodes):
+        if isinstance(node, Reservoir) and before.heads[index] != after.heads[index]:
+            counts["patterns: a reservoir's head changes"] += 1
+        if isinstance(node, Tank) and before.demands[index] != 0.0:
+            counts["patterns: a tank's demand becomes 0.0"] += 1
+    if before.demand_flows != after.demand_flows:
+        counts["patterns: demand flows change"] += 1
+
+
+def count_controls(counts, project, call, answer, before, after):
+    for control in project.controls:
+        if is_active(project, before, control):
+            count_active(counts, "controls", project, before, control)
+    if before.instant == 0 and any(control.condition in LEVEL_CONDITIONS for control in project.controls):
+        counts["controls: level controls passed over at 0"] += 1
+
+
+def is_active(project, state, control):
+    """Whether applying controls activates this one, as the state stands before any does."""
+    if control.condition == TIME:
+        return control.subject == state.instant
+    if control.condition == CLOCK_TIME:
+        return control.subject == (state.instant + project.options.start_clock) % DAY
+    if control.condition in PRESSURE_CONDITIONS or state.instant == 0:
+        return False
+    return isinstance(project.nodes[control.subject], Tank) and holds(project, state, control)
+
+
+def tolerance_of(control):
+    return L_TOL if control.condition in LEVEL_CONDITIONS else H_TOL
+
+
+def excess(project, state, control):
+    """How far the node is above a control's target."""
+    return state.heads[control.subject] - project.nodes[control.subject].elevation - control.target
+
+
+def holds(project, state, control):
+    over, tolerance = excess(project, state, control), tolerance_of(control)
+    return over >= -tolerance if control.condition in (HIGH_LEVEL, HIGH_PRESSURE) else over <= tolerance
+
+
+def count_active(counts, call, project, state, control):
+    condition = CONDITIONS[control.condition]
+    counts[f"{call}: {condition} active, {ACTIONS[control.flags]}"] += 1
+    if control.condition not in (TIME, CLOCK_TIME):
+        over = abs(excess(project, state, control))
+        counts[f"{call}: {condition} exactly at its tolerance"] += over == tolerance_of(control)
+        counts[f"{call}: {condition} within its tolerance"] += 0.0 < over < tolerance_of(control)
+
+
+def count_close(counts, project, call, answer, before, after):
+    for index in project.tanks():
+        count_closed_links(counts, project, index, before)
+        was, now = before.demands[index], after.demands[index]
+        if bits_of(was) != bits_of(now):
+            counts["close: a tank's demand changes"] += 1
+            counts["close: a tank's demand changes in its last bits"] += was != 0.0 and abs(now / was - 1.0) < 1e-9
+
+
+def count_closed_links(counts, project, index, before):
+    tank, head = project.nodes[index], before.heads[index]
+    full, empty = head >= tank.elevation + tank.greatest, head <= tank.elevation + tank.least
+    for link, flow in zip(project.links, before.flows):
+        inflow = {link.end: flow, link.start: -flow}.get(index, 0.0)
+        way = "into" if link.end == index else "out of"
+        if full and inflow > 0.0:
+            counts[f"close: full tank, link {way} it, {'overflow, left' if tank.overflow else 'closed'}"] += 1
+        if empty and inflow < 0.0:
+            counts[f"close: empty tank, link {way} it, closed"] += 1
+
+
+def count_pressure(counts, project, call, answer, before, after):
+    controls = [control for control in project.controls if control.condition in PRESSURE_CONDITIONS]
+    active = [control for control in controls if holds(project, before, control)]
+    counts[f"pressure: {answer} with {'2 or more' if len(active) > 1 else len(active)} active"] += 1
+    for control in active:
+        count_active(counts, "pressure", project, before, control)
+
+
+def count_premise(counts, project, call, answer, before, after):
+    if call.premise >= len(project.premises):
+        return
+    premise = project.premises[call.premise]
+    attribute = ATTRIBUTES[premise.attribute]
+    counts[f"premise: {attribute} {answer}"] += 1
+    counts[f"premise: {COMPARISONS[premise.comparison]} {answer}"] += 1
+    counts[f"premise: {SORTS[premise.sort]} for {attribute.split()[0]} {answer}"] += 1
+    if attribute.startswith("tank") and not isinstance(project.nodes[premise.index], Tank):
+        counts[f"premise: a tank's attribute of no tank {answer}"] += 1
+
+
+def count_step(counts, project, call, answer, before, after):
+    length = int(answer)
+    found = causes(project, before)
+    if length != min(found.values()):
+        sys.exit(f"a step of {length} where the candidates are {found}\n" + "\n".join(map(describe, project.records())))
+    cut_by = [name for name, seconds in found.items() if seconds == length]
+    counts[f"step: cut by {cut_by[0] if len(cut_by) == 1 else 'several'}"] += 1
+    for name in cut_by:
+        counts[f"step: as long as {name}"] += 1
+    if length and not project.is_on_fast_path():
+        count_tank_times(counts, project, before)
+        count_control_times(counts, project, before)
+    for index in project.tanks():
+        count_new_level(counts, project.nodes[index], before.heads[index], after.heads[index], length)
+
+
+def count_tank_times(counts, project, before):
+    times = [tank_time(project, before, index) for index in project.tanks()]
+    if 0 in times:
+        counts["step: a tank at a limit gives 0"] += 1
+        counts["step: a tank at a limit hides another tank's time"] += any(0 < seconds < NEVER for seconds in times)
+    for index in project.tanks():
+        tank, flow = project.nodes[index], before.demands[index]
+        for target in (tank.greatest, tank.least):
+            gap = volume(tank, target) - volume(tank, before.heads[index] - tank.elevation)
+            counts[f"tank: gap {gap_kind(abs(gap))}"] += 1
+            if abs(gap) >= 0.5 and flow != 0.0 and (gap > 0.0) == (flow > 0.0):
+                counts[f"tank: gap / flow {quotient_kind(gap / flow)}"] += 1
+
+
+def gap_kind(gap):
+    if gap in (0.0, 0.5):
+        return f"exactly {gap}"
+    side = "under" if gap < 0.5 else "over"
+    return f"just {side} 0.5" if abs(gap - 0.5) < 0.001 else f"{side} 0.5"
+
+
+def quotient_kind(quotient):
+    if quotient >= 2.0**64:
+        return "at or over 2^64"
+    if quotient < 0.5:
+        return "0.49999999999999994" if quotient == float_of(0x3FDFFFFFFFFFFFFF) else "under 0.5"
+    part = quotient - math.floor(quotient)
+    if part in (0.0, 0.5):
+        return "whole" if part == 0.0 else "exactly a half"
+    side = "under" if part < 0.5 else "over"
+    return f"just {side} a half" if abs(part - 0.5) < 1e-7 else "other"
+
+
+def count_control_times(counts, project, before):
+    clock = (before.instant + project.options.start_clock) % DAY
+    for control in project.controls:
+        seconds = control_time(project, before, control)
+        name = CONDITIONS[control.condition]
+        if control.condition == CLOCK_TIME and control.subject < clock:
+            name += " passed, next day"
+        kind = {0: "0, dropped", NEVER: "never"}.get(seconds, "some seconds")
+        counts[f"candidate: {name}: {kind}"] += 1
+
+
+def count_new_level(counts, tank, before, after, length):
+    if length == 0:
+        counts["levels: a step of 0 leaves them"] += before == after
+    elif before == after:
+        counts["levels: stay"] += 1
+    else:
+        level = after - tank.elevation
+        at = "greatest" if level == tank.greatest else "least" if level == tank.least else "between"
+        counts[f"levels: moved to {at}"] += 1
+
+
+COUNTERS = {
+    PATTERNS_CALL: count_patterns,
+    CONTROLS_CALL: count_controls,
+    CLOSE_CALL: count_close,
+    PRESSURE_CALL: count_pressure,
+    PREMISE_CALL: count_premise,
+    STEP_CALL: count_step,
+}
+
+
+# What there is to reach
+
+
+def expected():
+    """Every name that a run of a thousand seeds counts."""
+    yield from expected_refusals()
+    yield from expected_controls()
+    yield from expected_steps()
+    yield from named("status", ["close makes TempClosed"])
+    yield from named("close", (f"{tank} tank, link {way} it, closed" for tank in ("full", "empty") for way in WAYS))
+    yield from named("close", (f"full tank, link {way} it, overflow, left" for way in WAYS))
+    yield from named("close", ["a tank's demand changes in its last bits"])
+    yield from named("premise", (f"{what} {truth}" for what in ATTRIBUTES + COMPARISONS for truth in TRUTHS))
+    yield from named("premise", (f"{sort} for {what} false" for sort in SORTS for what in SUBJECTS))
+    yield from named("premise", ["a tank's attribute of no tank false"])
+    yield from named("patterns", ["a reservoir's head changes", "a tank's demand becomes 0.0", "demand flows change"])
+    yield from named("options", ["PDA", "not PDA", "default pattern", "no default pattern", "fast path", "hydraulic 0"])
+    yield from named("nodes", ["disabled junctions", "junctions of four demands"])
+    yield from named("pumps", ["setting 0", "flow not a multiple of the setting"])
+    yield from named("image", ["largest tables", "all its words used"])
+
+
+TRUTHS = ("true", "false")
+SUBJECTS = ("node", "tank", "link", "system")
+WAYS = ("into", "out of")
+CAUSES = ("report", "pattern", "hydraulic", "tank", "remainder", "fast path", "at the end", "several")
+
+
+def named(subject, names):
+    return (f"{subject}: {name}" for name in names)
+
+
+def expected_refusals():
+    numbers = [f"refused {number}" for number in range(1, 9)]
+    yield from named("sweep", ["accepted", *numbers[:6]])
+    yield from named("image", ["accepted", *numbers[:6]])
+    yield from named("driver", ["steps", *numbers])
+    yield from named("answer", ["load ok", "load refused=7", "load refused=8", "premise refused=9"])
+
+
+def expected_controls():
+    yield from named("status", (f"{call} makes {status}" for call in ("controls", "pressure") for status in STATUSES))
+    for number, condition in enumerate(CONDITIONS):
+        call = "pressure" if number in PRESSURE_CONDITIONS else "controls"
+        yield from named(call, (f"{condition} active, {action}" for action in ACTIONS))
+        if number < TIME:
+            yield from named(call, [f"{condition} exactly at its tolerance", f"{condition} within its tolerance"])
+    yield from named("controls", ["level controls passed over at 0"])
+    yield from named("pressure", (f"{truth} with {many} active" for truth in TRUTHS for many in ("1", "2 or more")))
+
+
+def expected_steps():
+    yield from named("step", (f"cut by {cause}" for cause in CAUSES))
+    yield from named("step", (f"cut by {condition} control" for condition in CONDITIONS[HIGH_LEVEL:]))
+    yield from named("step", ["a tank at a limit gives 0", "a tank at a limit hides another tank's time"])
+    for condition in CONDITIONS[HIGH_LEVEL:]:
+        yield from named("candidate", [f"{condition}: 0, dropped", f"{condition}: some seconds"])
+    yield from named("candidate", (f"{condition}: never" for condition in CONDITIONS[:CLOCK_TIME]))
+    yield from named("candidate", ["ClockTime passed, next day: some seconds"])
+    gaps = ("exactly 0.0", "under 0.5", "just under 0.5", "exactly 0.5", "just over 0.5", "over 0.5")
+    yield from named("tank", (f"gap {kind}" for kind in gaps))
+    halves = ("exactly a half", "just under a half", "just over a half")
+    quotients = ("0.49999999999999994", "under 0.5", "whole", *halves, "at or over 2^64")
+    yield from named("tank", (f"gap / flow {kind}" for kind in quotients))
+    yield from named("levels", ["moved to greatest", "moved to least", "moved to between", "a step of 0 leaves them"])
+
+
+def main():
+    parser = argparse.ArgumentParser(description=__doc__, formatter_class=argparse.RawDescriptionHelpFormatter)
+    parser.add_argument("--oracle", required=True)
+    parser.add_argument("--seed", type=int, default=1)
+    parser.add_argument("--count", type=int, default=1000, help="how many seeds")
+    arguments = parser.parse_args()
+    oracle = Program(arguments.oracle)
+    counts = Counter()
+    for cases in chunks(list(generate.CASES), arguments.seed, arguments.count):
+        answers = oracle.answers([(case.mode, case.input()) for _, _, case in cases])
+        for (kind, _, case), answer in zip(cases, answers):
+            count_case(counts, kind, case, answer)
+    for name, number in sorted(counts.items()):
+        print(f"{number:9} {name}")
+    wanted = list(expected())
+    missing = [name for name in wanted if not counts[name]]
+    print(f"{len(wanted) - len(missing)} of the {len(wanted)} things to reach are reached")
+    if missing:
+        sys.exit("not reached:\n" + "\n".join(missing))
+
+
+if __name__ == "__main__":
+    main()

@@ -1,0 +1,582 @@
+#!/usr/bin/env python3
+"""Random projects, lists of calls, driver inputs and damaged images, each fixed by its seed.
+
+    generate.py --replay SEED | --driver SEED | --image SEED | --sweep NUMBER [--out FILE] [--text]
+
+A sweep's images are not random: they try each field's limits, each header and each table's end one by one.
+"""
+
+import argparse
+import math
+import sys
+from dataclasses import dataclass
+
+import damage
+import limits
+from image import *
+from steps import Levels, advance, put_load, starting_levels, time_to_reach
+from values import *
+
+
+def replay_case(seed):
+    chance = Chance(f"replay {seed}")
+    project = make_project(chance)
+    moments = make_moments(chance, project)
+    project.premises = make_premises(chance, project, moments)
+    if len(project.links) == MOST_LINKS and chance.one_in(2):
+        fill_up(project)
+    return Replay(project, make_calls(chance, project, moments))
+
+
+def drive_case(seed):
+    chance = Chance(f"driver {seed}")
+    project = make_project(chance)
+    shorten(chance, project)
+    moments = make_moments(chance, project)
+    project.premises = make_premises(chance, project, moments)
+    if chance.one_in(8):
+        return driven_image(damage.damaged(chance, project))
+    loads = [moment.load for moment in moments[: chance.randint(0, len(moments))]]
+    if chance.one_in(4):
+        loads.append(damage.spoilt_load(chance, chance.choice(moments).load))
+    tail = bytes(chance.choice((1, 2, 3))) if chance.one_in(8) else b""
+    return Drive(project, loads, tail)
+
+
+def driven_image(image, longest=50):
+    """A damaged image for the driver. The damage may lie in the times, so the duration is kept short."""
+    image.mode = DRIVER
+    if len(image.words) > 1 and image.words[1] <= LONGEST_TIME:
+        image.words[1] = min(image.words[1], longest)
+    return image
+
+
+def image_case(seed):
+    chance = Chance(f"image {seed}")
+    project = make_project(chance)
+    project.premises = make_premises(chance, project, make_moments(chance, project, most=1))
+    return damage.damaged(chance, project)
+
+
+def sweep_case(number):
+    images = limits.sweep()
+    return images[number % len(images)]
+
+
+# Projects
+
+
+def make_project(chance):
+    sizes = make_sizes(chance)
+    options = make_options(chance)
+    project = Project(options)
+    project.patterns = [make_pattern(chance) for _ in range(sizes["patterns"])]
+    options.default_pattern = pattern_word(chance, project)
+    project.nodes = [make_node(chance, project, sizes["tanks"] == "some") for _ in range(sizes["nodes"])]
+    if sizes["tanks"] == "one" and project.nodes:
+        # A tank at a limit hides the times of all others, so one alone shows more.
+        project.nodes[chance.randrange(len(project.nodes))] = make_tank(chance)
+    if len(project.nodes) > 1:
+        project.links = [make_link(chance, project) for _ in range(sizes["links"])]
+        connect_tanks(chance, project)
+    if project.links:
+        project.controls = [make_control(chance, project) for _ in range(sizes["controls"])]
+    return project
+
+
+def make_sizes(chance):
+    tanks = chance.among((2, "none"), (5, "one"), (3, "some"))
+    controls = not chance.one_in(2 if tanks == "none" else 4)
+    kind = chance.among((40, "small"), (12, "middling"), (1, "largest"))
+    if kind == "largest":
+        return dict(patterns=MOST_PATTERNS, nodes=MOST_NODES, links=MOST_LINKS, controls=MOST_CONTROLS, tanks="some")
+    most = 1 if kind == "small" else 6
+    return dict(
+        patterns=chance.randint(0, 3 * most),
+        nodes=chance.randint(0, 1) if chance.one_in(10) else chance.randint(2, 6 * most),
+        links=0 if chance.one_in(10) else chance.randint(1, 8 * most),
+        controls=chance.randint(1, 5 * most) if controls else 0,
+        tanks=tanks,
+    )
+
+
+def make_options(chance):
+    report, pattern = timestep(chance), timestep(chance)
+    hydraulic = 0 if chance.one_in(5) else timestep(chance)
+    if chance.one_in(2):
+        # Long timesteps, so that tanks and controls cut the steps.
+        report, pattern = chance.choices((7200, DAY, DAY + 1, 7 * DAY, LONGEST_TIME), k=2)
+        hydraulic = chance.choice((0, 0, DAY, LONGEST_TIME))
+    return Options(
+        duration=make_duration(chance, (report, pattern, hydraulic)),
+        hydraulic=hydraulic,
+        report=report,
+        pattern=pattern,
+        pattern_start=instant(chance),
+        start_clock=chance.among((2, 0), (2, lambda: chance.randrange(DAY)), (1, 1), (1, 82_800), (1, DAY - 1)),
+        flags=chance.randrange(4),
+        multiplier=1.0 if chance.one_in(2) else ordinary(chance, MOST_OTHER),
+    )
+
+
+def make_duration(chance, timesteps):
+    """From none to ten years, often a whole number of timesteps and a little more or less."""
+    whole = chance.choice(timesteps) * chance.randint(1, 12) + chance.choice((0, 0, 1, -1, 77))
+    duration = chance.among(
+        (6, whole),
+        (3, lambda: chance.choice((10_000, DAY, 7 * DAY, 3 * DAY + 1))),
+        (1, lambda: chance.choice((0, 1, 2))),
+        (1, lambda: chance.choice((LONGEST_TIME, LONGEST_TIME - 1))),
+        (1, lambda: chance.randint(0, LONGEST_TIME)),
+    )
+    return min(max(duration, 0), LONGEST_TIME)
+
+
+def shorten(chance, project, most_steps=600):
+    """Cuts the duration so that a driver's run has few steps: the options' share of document 01's bound."""
+    options = project.options
+    timesteps = [options.report]
+    if not project.is_on_fast_path():
+        timesteps += [options.pattern, options.hydraulic or LONGEST_TIME, DAY // (1 + len(project.controls))]
+    each = 1.0 / sum(1.0 / seconds for seconds in timesteps)
+    options.duration = int(min(options.duration, each * chance.randint(1, most_steps)))
+
+
+def make_pattern(chance):
+    length = chance.among((8, lambda: chance.randint(1, 5)), (2, lambda: chance.randint(1, 30)), (1, 24), (1, 168))
+    return Pattern([ordinary(chance, MOST_OTHER) for _ in range(length)])
+
+
+def pattern_word(chance, project):
+    return chance.randint(0, len(project.patterns))
+
+
+def make_node(chance, project, tanks):
+    return chance.among(
+        (2, lambda: Reservoir(make_elevation(chance), pattern_word(chance, project))),
+        (4 if tanks else 0, lambda: make_tank(chance)),
+        (4, lambda: make_junction(chance, project)),
+    )
+
+
+def make_elevation(chance):
+    return chance.among(
+        (5, lambda: chance.choice((0.0, -0.0, 10.0, 100.0, 101.0, 250.0))),
+        (1, 0.1),
+        (1, lambda: chance.uniform(-500.0, 500.0)),
+        (1, lambda: wide(chance, MOST_FEET)),
+    )
+
+
+def make_junction(chance, project):
+    count = chance.randint(0, MOST_DEMANDS)
+    demands = [(ordinary(chance, MOST_OTHER), pattern_word(chance, project)) for _ in range(count)]
+    return Junction(int(chance.one_in(4)), make_elevation(chance), demands)
+
+
+def make_tank(chance):
+    tank = Tank(elevation=make_elevation(chance), diameter=diameter(chance), overflow=int(chance.one_in(3)))
+    tank.least = chance.among(
+        (6, 0.0),
+        (2, lambda: float(chance.randint(-5, 5))),
+        (1, -0.0),
+        (1, lambda: wide(chance, 0.9 * MOST_FEET)),
+    )
+    room = chance.among(
+        (12, lambda: float(chance.randint(1, 20))),
+        (1, 0.0),
+        (1, lambda: chance.uniform(0.0, 3.0)),
+        (1, lambda: 0.5 / surface(tank)),
+    )
+    tank.greatest = min(tank.least + room, MOST_FEET)
+    tank.initial = make_level(chance, tank)
+    return tank
+
+
+def make_level(chance, tank):
+    """A level at a limit, a gap of about half a cubic foot or of a few from one, between the limits, or outside."""
+    limit, inwards = chance.choice(((tank.greatest, -1.0), (tank.least, 1.0)))
+    gap = chance.choice((0.5, 0.5, 0.25, 0.49, 0.51, 1.0, 2.5, 10.0))
+    level = chance.among(
+        (3, limit),
+        (3, lambda: beside(chance, limit + inwards * gap / surface(tank))),
+        (1, lambda: beside(chance, limit)),
+        (5, lambda: chance.uniform(tank.least, tank.greatest)),
+        (1, lambda: limit - inwards * chance.choice((0.001, 1.0, 5.0))),
+        (1, lambda: wide(chance, MOST_FEET)),
+    )
+    return min(max(level, -MOST_FEET), MOST_FEET)
+
+
+def make_link(chance, project):
+    start, end = chance.sample(range(len(project.nodes)), 2)
+    tanks = project.tanks()
+    if tanks and chance.one_in(2):
+        start, end = two_ends(chance, chance.choice(tanks), len(project.nodes))
+    sort = chance.choice((PIPE, PUMP, VALVE))
+    size = ordinary(chance, MOST_OTHER) if sort == PUMP else diameter(chance)
+    return Link(start, end, sort, make_status(chance), size, 0.0 if sort == PIPE else make_setting(chance))
+
+
+def connect_tanks(chance, project):
+    """Gives a tank without links one of the links that are there, mostly."""
+    for tank in project.tanks():
+        connected = any(tank in (link.start, link.end) for link in project.links)
+        if project.links and not connected and not chance.one_in(6):
+            link = chance.choice(project.links)
+            link.start, link.end = two_ends(chance, tank, len(project.nodes))
+
+
+def two_ends(chance, tank, nodes):
+    """A tank and another node, either way round."""
+    other = chance.choice([node for node in range(nodes) if node != tank])
+    return (tank, other) if chance.one_in(2) else (other, tank)
+
+
+def make_status(chance):
+    return chance.among((3, OPEN), (1, CLOSED), (4, lambda: chance.randrange(10)))
+
+
+def make_setting(chance):
+    return chance.among(
+        (2, 1.0),
+        (1, 0.0),
+        (1, -0.0),
+        (2, lambda: round(chance.uniform(0.0, 2.0), 1)),
+        (2, lambda: wide(chance, MOST_OTHER)),
+    )
+
+
+# Controls
+
+
+def make_control(chance, project):
+    condition = chance.randrange(6)
+    control = Control(condition, 0, link=chance.randrange(len(project.links)), flags=chance.choice((0, 1, 1, 2, 2, 3)))
+    if control.flags & 1:
+        control.status = make_status(chance)
+    if control.flags & 2:
+        control.setting = make_setting(chance)
+    if condition == TIME:
+        control.subject = control_seconds(chance, project.options)
+    elif condition == CLOCK_TIME:
+        control.subject = control_clock(chance, project.options)
+    else:
+        control.subject = control_node(chance, project, condition)
+        control.target = control_target(chance, project.nodes[control.subject], condition)
+    return control
+
+
+def control_seconds(chance, options):
+    """Due at the start, at a timestep, a second beside it, about the end, or never."""
+    timesteps = (options.report, options.pattern, options.hydraulic)
+    seconds = chance.among(
+        (2, 0),
+        (5, lambda: chance.choice(timesteps) * chance.randint(0, 4) + chance.randint(-1, 1)),
+        (2, lambda: options.duration + chance.randint(-2, 2)),
+        (3, lambda: instant(chance)),
+    )
+    return min(max(seconds, 0), LONGEST_TIME)
+
+
+def control_clock(chance, options):
+    """Due at the start, soon, a second ago, or at any time of day."""
+    offset = chance.among(
+        (3, 0),
+        (2, lambda: chance.choice((-1, 1))),
+        (3, lambda: chance.choice((options.report, options.pattern, 1800))),
+        (3, lambda: chance.randrange(DAY)),
+    )
+    return (options.start_clock + offset) % DAY
+
+
+def control_node(chance, project, condition):
+    tanks = project.tanks()
+    if condition in (HIGH_LEVEL, LOW_LEVEL) and tanks and not chance.one_in(6):
+        return chance.choice(tanks)
+    return chance.randrange(len(project.nodes))
+
+
+def control_target(chance, node, condition):
+    """A target at or about a level that the tank will have, within the tolerance and just out of it."""
+    if isinstance(node, Tank):
+        tolerance = L_TOL if condition in (HIGH_LEVEL, LOW_LEVEL) else H_TOL
+        level = chance.choice((node.initial, node.greatest, node.least, make_level(chance, node)))
+        seen = node.elevation + level - node.elevation
+        offset = chance.choice((0.0, 0.0, tolerance, tolerance, -tolerance, -tolerance, 2 * tolerance, -2 * tolerance))
+        target = beside(chance, solved(lambda target: seen - target, offset, seen - offset))
+    else:
+        target = 0.0 if chance.one_in(4) else ordinary(chance, MOST_FEET)
+    return min(max(target, -MOST_FEET), MOST_FEET)
+
+
+# Loads
+
+
+@dataclass
+class Moment:
+    """A load, and the instant, heads and demands once it is taken."""
+
+    load: Load
+    levels: Levels
+
+
+def make_moments(chance, project, most=20):
+    """Loads for step after step as a driver takes them, each made for the levels that the ones before lead to."""
+    levels = starting_levels(project)
+    moments = []
+    count = chance.among((4, lambda: chance.randint(1, 5)), (1, lambda: chance.randint(6, 20)))
+    for _ in range(min(count, most)):
+        load = make_load(chance, project, levels)
+        put_load(project, levels, load)
+        moments.append(Moment(load, levels.copy()))
+        advance(project, levels)
+    return moments
+
+
+def make_load(chance, project, levels):
+    most = MOST_LOADED if chance.one_in(4) else 1e3
+    flows = [ordinary(chance, most) for _ in project.links]
+    for index in project.tanks():
+        if not chance.one_in(6):
+            put_tank_flow(chance, project, flows, index, levels.heads[index])
+    return Load(flows, [make_head(chance, project, index) for index in project.junctions()])
+
+
+def put_tank_flow(chance, project, flows, index, head):
+    """Gives one of the tank's links a flow that is worth timing, and the others none, mostly."""
+    links = [number for number, link in enumerate(project.links) if index in (link.start, link.end)]
+    if not links:
+        return
+    carrier = chance.choice(links)
+    for number in links:
+        if number != carrier and not chance.one_in(4):
+            flows[number] = chance.choice((0.0, 0.0, -0.0, TINIEST))
+    inflow = timed_flow(chance, project, index, head)
+    flows[carrier] = inflow if project.links[carrier].end == index else -inflow
+
+
+def timed_flow(chance, project, index, head):
+    """A flow that takes the tank from its head to a level that matters in about a whole or half second."""
+    tank = project.nodes[index]
+    targets = [tank.least, tank.greatest]
+    targets += [control.target for control in project.controls
+                if control.condition in (HIGH_LEVEL, LOW_LEVEL) and control.subject == index]
+    gap = volume(tank, chance.choice(targets)) - volume(tank, head - tank.elevation)
+    if abs(gap) < 0.5 or chance.one_in(4):
+        return partial_flow(chance, project.options, tank, head)
+    flow = chance.among(
+        (4, lambda: gap / (chance.randint(0, 6) + 0.5)),
+        (3, lambda: gap / chance.randint(1, 20)),
+        (3, lambda: gap / (chance.randint(10, 20_000) + chance.choice((0.0, 0.5)))),
+        (2, lambda: quotient_of_almost_half(gap)),
+        (1, lambda: gap / chance.choice((0.1, 2.0**64, 1.8446744073709550e19, 1e30))),
+        (1, lambda: math.copysign(TINIEST, gap)),
+    )
+    if not chance.one_in(3):
+        flow = beside(chance, flow)
+    if chance.one_in(8):
+        flow = -flow
+    return min(max(flow, -MOST_LOADED), MOST_LOADED)
+
+
+def partial_flow(chance, options, tank, head):
+    """A flow that takes the tank a part of the way between its limits in one timestep, mostly away from the nearer."""
+    timesteps = (options.report, options.pattern, options.hydraulic or options.report)
+    span = volume(tank, tank.greatest) - volume(tank, tank.least)
+    flow = span / (chance.uniform(0.8, 6.0) * chance.choice((min(timesteps), chance.choice(timesteps))))
+    if head - tank.elevation > (tank.least + tank.greatest) / 2:
+        flow = -flow
+    if chance.one_in(5):
+        flow = -flow
+    return min(max(flow, -MOST_LOADED), MOST_LOADED)
+
+
+def make_head(chance, project, index):
+    """A head at which a pressure control of this node is just on or just off, or any."""
+    elevation = project.nodes[index].elevation
+    targets = [control.target for control in project.controls
+               if control.condition in (HIGH_PRESSURE, LOW_PRESSURE) and control.subject == index]
+    if targets and not chance.one_in(4):
+        target, offset = chance.choice(targets), chance.choice((0.0, H_TOL, -H_TOL, 2 * H_TOL, -2 * H_TOL, 1.0, -1.0))
+        head = solved(lambda head: head - elevation - target, offset, elevation + (target + offset))
+        return beside(chance, head)
+    return chance.among((5, lambda: elevation + chance.randint(0, 100)), (1, lambda: wide(chance, MOST_LOADED)))
+
+
+# Premises
+
+
+def make_premises(chance, project, moments):
+    count = chance.among((1, 0), (5, lambda: chance.randint(1, 8)), (1, lambda: chance.randint(8, 40)))
+    if len(project.nodes) == MOST_NODES:
+        count = MOST_PREMISES
+    made = (make_premise(chance, project, chance.choice(moments)) for _ in range(count))
+    return [premise for premise in made if premise]
+
+
+def make_premise(chance, project, moment):
+    """A premise about the moment, or none where the project has nothing that the attribute speaks of."""
+    attribute = chance.randrange(12)
+    index = premise_index(chance, project, attribute)
+    if index is None:
+        return None
+    suits = NUMBER if attribute != 7 else STATUS
+    if attribute >= 10 and chance.one_in(2):
+        suits = SECONDS
+    sort = chance.randrange(3) if chance.one_in(8) else suits
+    value = premise_value(chance, project, moment, attribute, index, sort)
+    return Premise(chance.randrange(2), attribute, index, chance.randrange(6), sort, value)
+
+
+def premise_index(chance, project, attribute):
+    if attribute >= 9:
+        return 0
+    count = len(project.nodes) if attribute < 6 else len(project.links)
+    if count == 0:
+        return None
+    if 3 <= attribute < 6 and project.tanks() and not chance.one_in(8):
+        return chance.choice(project.tanks())
+    return chance.randrange(count)
+
+
+def premise_value(chance, project, moment, attribute, index, sort):
+    """At the attribute's value, at its tolerance, beside them, or anywhere."""
+    if sort == STATUS:
+        of_link = project.links[index].status if attribute == 7 else OPEN
+        return chance.choice((of_link, TEMP_CLOSED, chance.randrange(10)))
+    exact = attribute_value(chance, project, moment, attribute, index)
+    if sort == SECONDS:
+        return min(int(abs(exact)) + chance.choice((0, 0, 1)), LONGEST_TIME)
+    if chance.one_in(8):
+        return wide(chance, MOST_LOADED)
+    offset = chance.choice((0.0, H_TOL, -H_TOL, H_TOL, -H_TOL, 2 * H_TOL, -2 * H_TOL, 1.0, -1.0))
+    value = beside(chance, solved(lambda value: exact - value, offset, exact - offset))
+    return min(max(value, -MOST_LOADED), MOST_LOADED)
+
+
+def attribute_value(chance, project, moment, attribute, index):
+    """A value that the attribute has at the moment, or may well have."""
+    if attribute < 6:
+        return node_value(project, moment.levels, attribute, index)
+    if attribute == 6:
+        return abs(chance.choice((moment.load.flows[index], project.links[index].size, Q_ZERO)))
+    if attribute == 7:
+        return float(project.links[index].status)
+    if attribute == 8:
+        settings = [control.setting for control in project.controls if control.link == index]
+        return chance.choice(settings + [project.links[index].setting])
+    if attribute == 9:
+        return sum(moment.levels.demands)
+    now = moment.levels.instant
+    return float(now if attribute == 10 else (now + project.options.start_clock) % DAY)
+
+
+def node_value(project, levels, attribute, index):
+    node, head, demand = project.nodes[index], levels.heads[index], levels.demands[index]
+    level = head - node.elevation
+    if attribute == 2:
+        return level * PSI_PER_FOOT
+    if attribute < 3:
+        return demand if attribute == 0 else head
+    if attribute == 3 or not isinstance(node, Tank):
+        return level
+    return time_to_reach(node, level, node.greatest if attribute == 4 else node.least, demand) / 3600.0
+
+
+# Calls
+
+
+def make_calls(chance, project, moments):
+    """Cycles like a driver's, as they are or with other calls between and some left out; then every premise."""
+    loads = [moment.load for moment in moments]
+    if chance.one_in(2):
+        calls = [call for load in loads for call in driver_cycle(chance, project, load)]
+    else:
+        cycles = chance.among((1, 0), (8, lambda: chance.randint(1, 6)), (2, lambda: chance.randint(6, 20)))
+        calls = [call for _ in range(cycles) for call in loose_cycle(chance, project, loads)]
+        if chance.one_in(4):
+            chance.shuffle(calls)
+    return calls + [Call(PREMISE_CALL, premise=number) for number in range(len(project.premises))]
+
+
+def driver_cycle(chance, project, load):
+    cycle = [Call(PATTERNS_CALL), Call(CONTROLS_CALL), Call(LOAD_CALL, load=load.copy()), Call(CLOSE_CALL)]
+    if chance.one_in(2):
+        cycle.append(Call(PRESSURE_CALL))
+    for number in chance.sample(range(len(project.premises)), min(len(project.premises), chance.choice((0, 1, 4)))):
+        cycle.append(Call(PREMISE_CALL, premise=number))
+    return cycle + [Call(STEP_CALL)]
+
+
+def loose_cycle(chance, project, loads):
+    cycle = []
+    for code in (PATTERNS_CALL, CONTROLS_CALL, LOAD_CALL, CLOSE_CALL, PRESSURE_CALL, PREMISE_CALL, STEP_CALL):
+        if not chance.one_in(6):
+            cycle.append(make_call(chance, project, loads, code))
+    while chance.one_in(3):
+        code = chance.choice((LOAD_CALL, PRESSURE_CALL, PREMISE_CALL, PREMISE_CALL, STEP_CALL))
+        cycle.insert(chance.randint(0, len(cycle)), make_call(chance, project, loads, code))
+    return cycle
+
+
+def make_call(chance, project, loads, code):
+    if code == LOAD_CALL:
+        load = chance.choice(loads).copy()
+        return Call(code, load=damage.spoilt_load(chance, load) if chance.one_in(8) else load)
+    if code == PREMISE_CALL:
+        return Call(code, premise=premise_number(chance, project))
+    return Call(code)
+
+
+def premise_number(chance, project):
+    count = len(project.premises)
+    if count and not chance.one_in(10):
+        return chance.randrange(count)
+    return chance.choice((count, count, count + 1, MOST_PREMISES, 1 << 31, 0xFFFFFFFF))
+
+
+def fill_up(project):
+    """Lengthens patterns until the image has the most words that it may have, or one fewer."""
+    room = (MOST_WORDS - len(project.words())) // 2
+    for pattern in project.patterns:
+        more = min(room, MOST_MULTIPLIERS - len(pattern.multipliers))
+        pattern.multipliers += [1.25] * more
+        room -= more
+
+
+CASES = {"replay": replay_case, "driver": drive_case, "image": image_case, "sweep": sweep_case}
+
+
+def text_of(case):
+    """A case for people."""
+    if isinstance(case, Image):
+        lines = [" ".join(f"{word:08x}" for word in words) for words in split_records(case.words)]
+        return "\n".join([f"count {len(case.words) if case.count is None else case.count}"] + lines)
+    lines = [describe(item) for item in case.project.records()]
+    lines += [describe(item) for item in (case.calls if isinstance(case, Replay) else case.loads)]
+    if isinstance(case, Drive) and case.tail:
+        lines.append(f"and {len(case.tail)} bytes")
+    return "\n".join(lines)
+
+
+def main():
+    parser = argparse.ArgumentParser(description=__doc__.split("\n")[0])
+    kinds = parser.add_mutually_exclusive_group(required=True)
+    for kind in CASES:
+        kinds.add_argument(f"--{kind}", metavar="NUMBER" if kind == "sweep" else "SEED", type=int)
+    parser.add_argument("--out", metavar="FILE", help="write there instead of to standard output")
+    parser.add_argument("--text", action="store_true", help="write the case for people")
+    arguments = parser.parse_args()
+    kind = next(kind for kind in CASES if getattr(arguments, kind) is not None)
+    case = CASES[kind](getattr(arguments, kind))
+    written = (text_of(case) + "\n").encode() if arguments.text else case.input()
+    if arguments.out:
+        with open(arguments.out, "wb") as file:
+            file.write(written)
+    else:
+        sys.stdout.buffer.write(written)
+
+
+if __name__ == "__main__":
+    main()

@@ -1,0 +1,92 @@
+"""The programs under comparison, and their answers to many cases."""
+
+import struct
+import subprocess
+from pathlib import Path
+
+from image import DRIVER, REPLAY
+
+MODES = {REPLAY: "replay", DRIVER: "driver"}
+
+# An empty input has no image, which is number 1 in both modes.
+PROBE, PROBE_ANSWER = b"", b"refused 1\n"
+
+
+class Program:
+    """A program with the modes `replay`, `driver` and, where it has one, `batch`; or one program for each mode."""
+
+    def __init__(self, path=None, replay=None, driver=None, batch=None, timeout=600):
+        self.commands = {
+            REPLAY: command(replay) or command(path, "replay"),
+            DRIVER: command(driver) or command(path, "driver"),
+        }
+        self.timeout = timeout
+        self.batch = command(batch) or command(path, "batch")
+        if self.batch and self.batch_answers([(REPLAY, PROBE)]) != [PROBE_ANSWER]:
+            self.batch = None
+
+    def can(self, mode):
+        return bool(self.batch or self.commands[mode])
+
+    def answers(self, inputs):
+        """The answer to each pair of a mode and input bytes."""
+        if not self.batch:
+            return [self.single_answer(mode, data) for mode, data in inputs]
+        answers = []
+        while len(answers) < len(inputs):
+            answers += self.batch_answers(inputs[len(answers):])
+            if len(answers) < len(inputs):
+                # The batch ended early: the next case is the one that ended it.
+                answers.append(self.single_answer(*inputs[len(answers)]))
+        return answers
+
+    def answer(self, mode, data):
+        return self.answers([(mode, data)])[0]
+
+    def batch_answers(self, inputs):
+        """The answers that came before the batch ended."""
+        framed = b"".join(struct.pack("<II", mode, len(data)) + data for mode, data in inputs)
+        try:
+            done = subprocess.run(self.batch, input=framed, capture_output=True, timeout=self.timeout)
+        except (OSError, subprocess.TimeoutExpired):
+            return []
+        return list(unframed(done.stdout))[: len(inputs)]
+
+    def single_answer(self, mode, data):
+        if not self.commands[mode]:
+            return b"no answer from the batch\n"
+        try:
+            done = subprocess.run(self.commands[mode], input=data, capture_output=True, timeout=self.timeout)
+        except subprocess.TimeoutExpired:
+            return b"no answer in time\n"
+        ended = b"" if done.returncode == 0 else b"ended with code %d\n" % done.returncode
+        return done.stdout + ended
+
+
+def add_arguments(parser):
+    """The options by which a command line names the program that is compared."""
+    parser.add_argument("--ours", help="a program with the modes replay and driver, and batch if it has it")
+    parser.add_argument("--replay", help="a program that is our replay")
+    parser.add_argument("--driver", help="a program that is our driver")
+    parser.add_argument("--batch", help="a program that is our batch")
+
+
+def named_by(arguments, parser):
+    if not (arguments.ours or arguments.replay or arguments.driver or arguments.batch):
+        parser.error("no program: give --ours, or --replay, --driver or --batch")
+    return Program(arguments.ours, arguments.replay, arguments.driver, arguments.batch)
+
+
+def command(path, *arguments):
+    return [str(Path(path).resolve()), *arguments] if path else None
+
+
+def unframed(data):
+    """The whole frames of a batch's output."""
+    at = 0
+    while at + 4 <= len(data):
+        length = struct.unpack_from("<I", data, at)[0]
+        if at + 4 + length > len(data):
+            return
+        yield data[at + 4 : at + 4 + length]
+        at += 4 + length
