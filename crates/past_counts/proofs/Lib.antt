@@ -1,0 +1,2 @@
+-- Laws on what the calls leave alone.
+pub mod Past
