@@ -1,0 +1,1 @@
+-- What soundness says is in the specs of the crates below.
