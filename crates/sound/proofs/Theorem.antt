@@ -41,7 +41,7 @@ unfolding inOrder
 in-order p s e f = rw (e, state-ok p s f)
 
 -- a call that keeps the facts keeps the order
-kept : (p : Project) (s u : State) → inOrder p s ≡ true → (TablesFit p → StateFit p s → StateFit p u) → inOrder p u ≡ true
+pub kept : (p : Project) (s u : State) → inOrder p s ≡ true → (TablesFit p → StateFit p s → StateFit p u) → inOrder p u ≡ true
 kept p s u e h = let t = tables-of p s e in in-order p u t (h (tables-fit p t) (state-of p s e))
 
 -- ---- the start
