@@ -28,11 +28,11 @@ use Rattle.sound.proofs.Kept.{patterns-kept, controls-kept, pressure-ke
 use Rattle.sound.proofs.Start.{start-fits}
 
 -- ---- in order, as facts
-tables-of : (p : Project) (s : State) → inOrder p s ≡ true → tablesOk p ≡ true
+pub tables-of : (p : Project) (s : State) → inOrder p s ≡ true → tablesOk p ≡ true
 unfolding inOrder
 tables-of p s e = both-left (tablesOk p) (stateOk p s) e
 
-state-of : (p : Project) (s : State) → inOrder p s ≡ true → StateFit p s
+pub state-of : (p : Project) (s : State) → inOrder p s ≡ true → StateFit p s
 unfolding inOrder
 state-of p s e = state-fit p s (both-right (tablesOk p) (stateOk p s) e)
 
