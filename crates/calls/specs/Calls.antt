@@ -16,8 +16,10 @@ use Rattle.load.specs.Loads.{loadFault, takeLoad}
 use Rattle.solver.specs.Closing.{updateTankLinks}
 use Rattle.solver.specs.Pressure.{applyPressureControls}
 use Rattle.premise.specs.Premise.{premiseTruthAt}
+use Rattle.simulation.specs.Steps.{nextHydraulicTimestep}
 use Rattle.calls.specs.declared.Called.{Called}
 use Rattle.calls.specs.declared.PressureCalled.{PressureCalled}
+use Rattle.calls.specs.declared.StepCalled.{StepCalled}
 use Rattle.calls.specs.declared.PremiseAnswer.{PremiseAnswer}
 use Rattle.calls.specs.declared.PremiseAnswer.the-variants.{Truth, Refused}
 
@@ -64,3 +66,9 @@ premiseNumber (Refused n) = n
 abbrev pub premiseTruths : PremiseAnswer → List Bool
 premiseTruths (Truth b) = b ∷ []
 premiseTruths (Refused n) = []
+
+-- the step also answers its length; refused, it has none
+unfoldable pub step : Project → State → StepCalled
+step p s =
+    let done = nextHydraulicTimestep p s in
+    cond (inOrder p s) (record { number = 0; length = done .length; state = done .state }) (record { number = 10; length = 0; state = s })

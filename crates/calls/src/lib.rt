@@ -1,6 +1,6 @@
 // The public calls: each judges the tables and the state first (10), and yields the number and the same state where it refuses.
 ghost use mathlib.Core.Path.{_≡_};
-ghost use Rattle.calls.specs.Calls.{start, patterns, controls, load, tankLinks, pressure, premise};
+ghost use Rattle.calls.specs.Calls.{start, patterns, controls, load, tankLinks, pressure, premise, step};
 use judge::in_order;
 use model::*;
 use tables::tables_ok;
@@ -16,6 +16,13 @@ pub struct PressureCalled {
     pub number: u32,
     pub state: State,
     pub changed: bool,
+}
+
+// The same as `Called`, and the step's length in seconds.
+pub struct StepCalled {
+    pub number: u32,
+    pub length: u32,
+    pub state: State,
 }
 
 // A premise's truth, or the number of the refusal. The state is only read.
@@ -142,4 +149,23 @@ pub fn premise_truth(p: Project, s: State, i: usize) -> PremiseAnswer
         return PremiseAnswer::Refused(9);
     }
     PremiseAnswer::Truth(premise::premise_truth_at(p, s, i))
+}
+
+pub fn next_hydraulic_timestep(p: Project, s: State) -> StepCalled
+    ensures { λ r. ⌜ r ≡ step p s ⌝ }
+{
+    if !in_order(p, s) {
+        return StepCalled {
+            number: 10,
+            length: 0,
+            state: s,
+        };
+    }
+    let done = simulation::next_hydraulic_timestep(p, s);
+    let state = done.state;
+    StepCalled {
+        number: 0,
+        length: done.length,
+        state: state,
+    }
 }

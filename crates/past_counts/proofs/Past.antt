@@ -6,6 +6,7 @@ use mathlib.Core.List.{List}
 use native.Mathlib.Omega.{arith}
 use lib.Dec.{eqb}
 use lib.Seq.{getD-set-other}
+use Rattle.clock.specs.Steps.{advanced}
 use Rattle.model.specs.Blank.{blankState, blankNodeState, blankLinkState, controlAt, withNode, withLink}
 use Rattle.model.specs.declared.project.Project.{Project}
 use Rattle.model.specs.declared.state.LinkState.{LinkState}
@@ -25,9 +26,11 @@ use Rattle.load.specs.Loads.{loadFault, loadFlows, takeLoad}
 use Rattle.solver.specs.Closing.{closeLinks, updateTankLinks}
 use Rattle.solver.specs.Pressure.{applyPressureControls}
 use Rattle.solver.specs.declared.pressure.Pressed.{Pressed}
-use Rattle.calls.specs.Calls.{gives, start, judged, patterns, controls, load, tankLinks, pressure}
+use Rattle.simulation.specs.Steps.{lengthOf, movedBy, nextHydraulicTimestep}
+use Rattle.calls.specs.Calls.{gives, start, judged, patterns, controls, load, tankLinks, pressure, step}
 use Rattle.calls.specs.declared.Called.{Called}
 use Rattle.calls.specs.declared.PressureCalled.{PressureCalled}
+use Rattle.calls.specs.declared.StepCalled.{StepCalled}
 use Rattle.past_counts.specs.Past.{SamePast}
 
 same : (p : Project) (s : State) → SamePast p s s
@@ -85,6 +88,18 @@ unfolding applyPressureControls
 apply-pressure-controls-past p s fit =
     keeps (λ i (r : Pressed). SamePast p s (r .state)) _ _ _ (same p s) (λ i u l r. link-set (controlAt p i .link) _ (fit .control i l .link) r)
 
+pub moved-by-past : (p : Project) (s : State) (length : ℕ) → SamePast p s (movedBy p s length)
+unfolding movedBy
+moved-by-past p s length = go (eqb length 0)
+  where
+    u : State
+    u = updateTanks p s length
+    q : SamePast p s u
+    q = update-tanks-past p s length
+    go : (b : Bool) → SamePast p s (cond b s (record { nodes = u .nodes; links = u .links; clock = advanced (s .clock) length }))
+    go true = same p s
+    go false = record { node = q .node; link = q .link }
+
 -- ---- the public calls, refused or not
 in-order-fit : (p : Project) (s : State) → inOrder p s ≡ true → TablesFit p
 unfolding inOrder
@@ -126,3 +141,12 @@ pressure-past p s = go (inOrder p s) refl
         → SamePast p s (cond {A = PressureCalled} b (record { number = 0; state = applyPressureControls p s .state; changed = applyPressureControls p s .changed }) (record { number = 10; state = s; changed = false }) .state)
     go true e = apply-pressure-controls-past p s (in-order-fit p s e)
     go false e = same p s
+
+pub step-past : (p : Project) (s : State) → SamePast p s (step p s .state)
+unfolding step nextHydraulicTimestep
+step-past p s = go (inOrder p s)
+  where
+    go : (b : Bool)
+        → SamePast p s (cond {A = StepCalled} b (record { number = 0; length = lengthOf p s; state = movedBy p s (lengthOf p s) }) (record { number = 10; length = 0; state = s }) .state)
+    go true = moved-by-past p s (lengthOf p s)
+    go false = same p s

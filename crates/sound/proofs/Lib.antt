@@ -4,3 +4,4 @@ pub mod Sums
 pub mod Kept
 pub mod Start
 pub mod Theorem
+pub mod Step

@@ -28,11 +28,11 @@ use Rattle.sound.proofs.Kept.{patterns-kept, controls-kept, pressure-ke
 use Rattle.sound.proofs.Start.{start-fits}
 
 -- ---- in order, as facts
-tables-of : (p : Project) (s : State) → inOrder p s ≡ true → tablesOk p ≡ true
+pub tables-of : (p : Project) (s : State) → inOrder p s ≡ true → tablesOk p ≡ true
 unfolding inOrder
 tables-of p s e = both-left (tablesOk p) (stateOk p s) e
 
-state-of : (p : Project) (s : State) → inOrder p s ≡ true → StateFit p s
+pub state-of : (p : Project) (s : State) → inOrder p s ≡ true → StateFit p s
 unfolding inOrder
 state-of p s e = state-fit p s (both-right (tablesOk p) (stateOk p s) e)
 
@@ -41,7 +41,7 @@ unfolding inOrder
 in-order p s e f = rw (e, state-ok p s f)
 
 -- a call that keeps the facts keeps the order
-kept : (p : Project) (s u : State) → inOrder p s ≡ true → (TablesFit p → StateFit p s → StateFit p u) → inOrder p u ≡ true
+pub kept : (p : Project) (s u : State) → inOrder p s ≡ true → (TablesFit p → StateFit p s → StateFit p u) → inOrder p u ≡ true
 kept p s u e h = let t = tables-of p s e in in-order p u t (h (tables-fit p t) (state-of p s e))
 
 -- ---- the start

@@ -1,0 +1,30 @@
+-- Demand 3, whole: of every accepted image and every list of calls from its start. Assumes nothing.
+use mathlib.Core.Path.{_≡_}
+use mathlib.Core.Bool.{true}
+use mathlib.Core.List.{List}
+use Prim.Native.Nat.{ℕ}
+use Rattle.clock.proofs.Demand3 as clock
+use Rattle.clock.specs.Machine.{final}
+use Rattle.model.specs.declared.project.Project.{Project}
+use Rattle.tables.specs.Tables.{tablesOk}
+use Rattle.tables.proofs.Fits.{tables-fit}
+use Rattle.image.specs.Image.{decode}
+use Rattle.acceptance.proofs.Accepted.{accepted}
+use Rattle.simulation.specs.Steps.{timesOf, triggersOf}
+use Rattle.calls.specs.Calls.{start}
+use Rattle.demand3.specs.Calls.{Call}
+use Rattle.demand3.specs.Machine.{machine, Demand3}
+use Rattle.demand3.proofs.Lawful.{accepted-times, lawful, start-accepted, started}
+
+-- of tables that number 10 is not given for
+pub demand3-of-tables : (p : Project) → tablesOk p ≡ true → (calls : List Call) → Demand3 p calls (final (machine p) calls (start p .state))
+demand3-of-tables p e calls =
+    clock.demand3 (machine p) (timesOf p) (triggersOf p) (accepted-times p (tables-fit p e)) (lawful p) (start p .state) (started p e) calls
+
+-- the image is accepted, its project's start is, and the claim holds of any list from there
+pub demand3 : (image : List ℕ) → decode image .fault ≡ 0 → (calls : List Call)
+    → (start (decode image .project) .number ≡ 0)
+    × Demand3 (decode image .project) calls (final (machine (decode image .project)) calls (start (decode image .project) .state))
+demand3 image e calls =
+    let p = decode image .project in
+    (start-accepted p (accepted image e), demand3-of-tables p (accepted image e) calls)

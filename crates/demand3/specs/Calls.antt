@@ -1,0 +1,49 @@
+-- "Take any list of these calls, refused ones included, from an accepted project's start: patterns, controls, loads, tank-link closing, pressure pass,
+-- premises, steps."
+use Prim.Native.Nat.{ℕ}
+use mathlib.Core.Bool.{Bool, true, false}
+use mathlib.Core.List.{List}
+use Rattle.model.specs.declared.project.Project.{Project}
+use Rattle.model.specs.declared.state.State.{State}
+use Rattle.calls.specs.Calls as calls
+use Rattle.calls.specs.declared.Called.{Called}
+use Rattle.calls.specs.declared.PremiseAnswer.{PremiseAnswer}
+use Rattle.calls.specs.declared.PremiseAnswer.the-variants.{Truth, Refused}
+use Rattle.demand3.specs.declared.call.Outcome.{Outcome}
+
+pub data Call : Type 0 where
+  patterns : Call
+  controls : Call
+  load : List ℕ → Call
+  tankLinks : Call
+  pressure : Call
+  premise : ℕ → Call
+  step : Call
+
+abbrev pub isStep : Call → Bool
+isStep patterns = false
+isStep controls = false
+isStep (load words) = false
+isStep tankLinks = false
+isStep pressure = false
+isStep (premise i) = false
+isStep step = true
+
+-- the number and the state, of a call that answers no more
+abbrev pub called : Called → Outcome
+called c = record { number = c .number; length = 0; truth = false; state = c .state }
+
+-- a premise leaves the state; refused, it yields no truth
+abbrev pub asked : PremiseAnswer → State → Outcome
+asked (Truth b) s = record { number = 0; length = 0; truth = b; state = s }
+asked (Refused n) s = record { number = n; length = 0; truth = false; state = s }
+
+-- what the public calls answer. `length` is a step's, `truth` a premise's, or whether the pressure pass changed anything.
+unfoldable pub outcome : Project → Call → State → Outcome
+outcome p patterns s = called (calls.patterns p s)
+outcome p controls s = called (calls.controls p s)
+outcome p (load words) s = called (calls.load p words s)
+outcome p tankLinks s = called (calls.tankLinks p s)
+outcome p pressure s = let c = calls.pressure p s in record { number = c .number; length = 0; truth = c .changed; state = c .state }
+outcome p (premise i) s = asked (calls.premise p i s) s
+outcome p step s = let c = calls.step p s in record { number = c .number; length = c .length; truth = false; state = c .state }

@@ -1,0 +1,109 @@
+-- Document 01, module 9: `calculate_time_step` and `next_hydraulic_timestep` on a project's tables and a state.
+use Prim.Native.Nat.{ℕ, zero, suc, min}
+use mathlib.Core.Bool.{Bool, cond, not, _&&_}
+use mathlib.Core.List.{List, [], _∷_, _++_}
+use lib.Dec.{eqb}
+use lib.Ieee.{Float}
+use Rattle.number.specs.Constants.{MAX}
+use Rattle.number.specs.Operators.{_⊖_}
+use Rattle.clock.specs.Steps.{advanced}
+use Rattle.clock.specs.Triggers.{Trigger, atTime, atClock, atLevel, untimed, Moment, lengthAt}
+use Rattle.clock.specs.declared.length.Times.{Times}
+use Rattle.tank.specs.Tanks.{timeToFillOrDrain}
+use Rattle.model.specs.Blank.{nodeAt, nodeStateAt, controlAt}
+use Rattle.model.specs.Loops.{through, allBelow}
+use Rattle.model.specs.Nodes.{isTank}
+use Rattle.model.specs.declared.control.ControlCondition.{ControlCondition}
+use Rattle.model.specs.declared.control.ControlCondition.the-variants.{HighPressure, LowPressure, HighLevel, LowLevel, Time, ClockTime}
+use Rattle.model.specs.declared.node.NodeType.{NodeType}
+use Rattle.model.specs.declared.node.NodeType.the-variants.{Reservoir, Tank, Junction}
+use Rattle.model.specs.declared.project.Project.{Project}
+use Rattle.model.specs.declared.state.NodeState.{NodeState}
+use Rattle.model.specs.declared.state.State.{State}
+use Rattle.control.specs.Controls.{levelTime}
+use Rattle.state.specs.Tanks.{updateTanks}
+use Rattle.simulation.specs.declared.step.Stepped.{Stepped}
+
+-- ---- the options
+abbrev pub noTankAt : Project → ℕ → Bool
+noTankAt p i = not (isTank (nodeAt p i))
+
+unfoldable pub noTanks : Project → Bool
+noTanks p = allBelow (p .counts .nodes) (noTankAt p)
+
+-- "Fast path (skip flag, no controls, no tanks)"
+unfoldable pub onFastPath : Project → Bool
+onFastPath p = p .options .skip && eqb (p .counts .controls) 0 && noTanks p
+
+unfoldable pub timesOf : Project → Times
+timesOf p =
+    let o = p .options in
+    record {
+      duration = o .duration;
+      hydraulic = o .hydraulic;
+      report = o .report;
+      pattern = o .pattern;
+      «start_clock» = o .«start_clock»;
+      fast = onFastPath p;
+    }
+
+-- ---- the controls
+-- a level control's tank and target
+pub record Level : Type 0 where
+  pub tank : ℕ
+  pub target : Float
+
+-- when a control calls for a stop
+abbrev pub triggerOf : ControlCondition → Trigger Level
+triggerOf (HighPressure n x) = untimed
+triggerOf (LowPressure n x) = untimed
+triggerOf (HighLevel n x) = atLevel (record { tank = n; target = x })
+triggerOf (LowLevel n x) = atLevel (record { tank = n; target = x })
+triggerOf (Time s) = atTime s
+triggerOf (ClockTime s) = atClock s
+
+-- f at 0, at 1, .. and at n - 1
+unfoldable pub listed : {A : Type 0} → ℕ → (ℕ → A) → List A
+listed zero f = []
+listed (suc n) f = listed n f ++ (f n ∷ [])
+
+abbrev pub triggerAt : Project → ℕ → Trigger Level
+triggerAt p i = triggerOf (controlAt p i .condition)
+
+-- the controls, in image order
+unfoldable pub triggersOf : Project → List (Trigger Level)
+triggersOf p = listed (p .counts .controls) (triggerAt p)
+
+-- ---- the moment of a state
+-- a tank's candidate; other nodes have none
+abbrev pub tankCandidate : NodeType → NodeState → ℕ
+tankCandidate (Reservoir r) s = MAX
+tankCandidate (Tank t) s = timeToFillOrDrain t (record { 0 = s .head ⊖ t .elevation .0 }) (record { 0 = s .demand })
+tankCandidate (Junction j) s = MAX
+
+abbrev pub smallerTank : Project → State → ℕ → ℕ → ℕ
+smallerTank p s i smallest = min (tankCandidate (nodeAt p i .kind) (nodeStateAt s i)) smallest
+
+-- "the smallest over all of them", zeros too
+unfoldable pub tankTime : Project → State → ℕ
+tankTime p s = through (p .counts .nodes) (smallerTank p s) MAX
+
+unfoldable pub momentOf : Project → State → Moment Level
+momentOf p s = record {
+  tank = tankTime p s;
+  level = λ l. levelTime (nodeAt p (l .tank) .kind) (nodeStateAt s (l .tank)) (l .target);
+}
+
+-- ---- the step
+-- the length of a step asked on a state
+unfoldable pub lengthOf : Project → State → ℕ
+lengthOf p s = lengthAt (timesOf p) (triggersOf p) (momentOf p s) (s .clock .instant)
+
+-- the tanks moved by a step's seconds, and the clock advanced; a step of 0 moves nothing
+unfoldable pub movedBy : Project → State → ℕ → State
+movedBy p s length =
+    let moved = updateTanks p s length in
+    cond (eqb length 0) s (record { nodes = moved .nodes; links = moved .links; clock = advanced (s .clock) length })
+
+unfoldable pub nextHydraulicTimestep : Project → State → Stepped
+nextHydraulicTimestep p s = record { length = lengthOf p s; state = movedBy p s (lengthOf p s) }
