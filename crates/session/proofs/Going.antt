@@ -6,8 +6,8 @@ use mathlib.Core.Bool.{Bool, true, false, cond, true≢false}
 use mathlib.Core.List.{List, [], _∷_, _++_, append-nil, append-assoc}
 use mathlib.Core.Logic.{_⊎_, inl, inr, ⊎-elim}
 use native.Mathlib.Omega.{arith}
-use borrow.Author.Tests.{le-leb, le-ltb, ltb-false, leb-true}
-use lib.Dec.{ltb, leb}
+use borrow.Author.Tests.{le-leb, le-ltb, ltb-false, leb-true, eqb-true}
+use lib.Dec.{ltb, leb, eqb}
 use lib.ListN.{length, take, drop, length-drop}
 use lib.Seq.{drop-append-le, drop-drop, take-all}
 use Rattle.clock.specs.declared.hand.Clock.{Clock}
@@ -25,31 +25,51 @@ use Rattle.session.specs.Chunks.{TurnedAs, wantsInput, canTurn, Ran}
 use Rattle.session.proofs.Turning.{Known, known, turn-more, turn-done}
 
 -- what a turn may count on
-pub record Ready (over wants : Bool) (room : ℕ) : Type 0 where
+pub record Ready (over : Bool) (wants room : ℕ) : Type 0 where
   pub going : over ≡ false
-  pub input : wants ≡ false
+  pub input : wants ≡ 0
   pub fits : 22 ≤ room
 
-pub ready : (over wants : Bool) (room : ℕ) → canTurn over wants room ≡ true → Ready over wants room
+pub ready : (over : Bool) (wants room : ℕ) → canTurn over wants room ≡ true → Ready over wants room
 ready true wants room e = absurd (true≢false (sym e))
-ready false true room e = absurd (true≢false (sym e))
-ready false false room e = record { going = refl; input = refl; fits = leb-true 22 room e }
+ready false wants room e = tested (eqb wants 0) refl e
+  where
+    tested : (b : Bool) → eqb wants 0 ≡ b → cond b (leb 22 room) false ≡ true → Ready false wants room
+    tested true z q = record { going = refl; input = eqb-true wants 0 z; fits = leb-true 22 room q }
+    tested false z q = absurd (true≢false (sym q))
+
+stopped : (over : Bool) (wants room : ℕ) → over ≡ false → 22 ≤ room → canTurn over wants room ≡ false → wants ≡ 0 → ⊥
+stopped over wants room z k q w = true≢false (sym (rw (z, w) (le-leb 22 room k)) ∙ q)
 
 -- where a turn waits for nothing
-wants-none : (whole : Bool) (duration instant left size : ℕ) → wantsInput duration instant whole left size ≡ false → (whole ≡ true) ⊎ ((duration ≤ instant) ⊎ (size ≤ left))
+wants-none : (whole : Bool) (duration instant left size : ℕ) → wantsInput duration instant whole left size ≡ 0 → (whole ≡ true) ⊎ ((duration ≤ instant) ⊎ (size ≤ left))
 wants-none true duration instant left size e = inl refl
-wants-none false duration instant left size e = inr (tested (ltb instant duration) refl e)
+wants-none false duration instant left size e = inr (timed (ltb instant duration) refl e)
   where
-    tested : (b : Bool) → ltb instant duration ≡ b → cond b (ltb left size) false ≡ false → (duration ≤ instant) ⊎ (size ≤ left)
-    tested true l q = inr (ltb-false left size q)
-    tested false l q = inl (ltb-false instant duration l)
+    measured : (b : Bool) → ltb left size ≡ b → cond b size 0 ≡ 0 → size ≤ left
+    measured true l q = omega arith
+    measured false l q = ltb-false left size l
 
-enough : (whole : Bool) (duration instant left size : ℕ) → (whole ≡ true) ⊎ (size ≤ left) → wantsInput duration instant whole left size ≡ false
+    timed : (b : Bool) → ltb instant duration ≡ b → cond b (cond (ltb left size) size 0) 0 ≡ 0 → (duration ≤ instant) ⊎ (size ≤ left)
+    timed true l q = inr (measured (ltb left size) refl q)
+    timed false l q = inl (ltb-false instant duration l)
+
+-- a turn waits for nothing, or for a load
+pub wants-load : (whole : Bool) (duration instant left size : ℕ) → (wantsInput duration instant whole left size ≡ 0) ⊎ (wantsInput duration instant whole left size ≡ size)
+wants-load true duration instant left size = inl refl
+wants-load false duration instant left size = tested (ltb instant duration) (ltb left size)
+  where
+    tested : (b c : Bool) → (cond b (cond c size 0) 0 ≡ 0) ⊎ (cond b (cond c size 0) 0 ≡ size)
+    tested true true = inr refl
+    tested true false = inl refl
+    tested false c = inl refl
+
+enough : (whole : Bool) (duration instant left size : ℕ) → (whole ≡ true) ⊎ (size ≤ left) → wantsInput duration instant whole left size ≡ 0
 enough true duration instant left size h = refl
 enough false duration instant left size (inl z) = absurd (true≢false (sym z))
 enough false duration instant left size (inr k) = rw (le-ltb left size k) (same (ltb instant duration))
   where
-    same : (b : Bool) → cond b false false ≡ false
+    same : (b : Bool) → _≡_ {A = ℕ} (cond b 0 0) 0
     same true = refl
     same false = refl
 
@@ -61,7 +81,7 @@ at-hand p s bytes more whole (inr (inl d)) e = turn-done p s (bytes ++ more) byt
 at-hand p s bytes more whole (inr (inr k)) e = turn-more p s bytes more k
 
 -- the turns so far
-pub record Going (p : Project) (s : State) (input : List ℕ) (whole : Bool) (before after : List ℕ) (state : State) (used written : ℕ) (over wants : Bool) : Type 0 where
+pub record Going (p : Project) (s : State) (input : List ℕ) (whole : Bool) (before after : List ℕ) (state : State) (used written : ℕ) (over : Bool) (wants : ℕ) : Type 0 where
   pub count : ℕ
   pub lines : List Line
   pub put : Put before 0 (textOf lines) after written
@@ -79,7 +99,7 @@ unfolding textOf
 put-none h = put-begun h
 
 pub going-begun : {p : Project} {s : State} {input : List ℕ} {whole : Bool} {before : List ℕ} → inOrder p s ≡ true → {size : ℕ} → size ≡ loadBytes p
-    → {wants : Bool} → wants ≡ wantsInput (p .options .duration) (s .clock .instant) whole (length input) size
+    → {wants : ℕ} → wants ≡ wantsInput (p .options .duration) (s .clock .instant) whole (length input) size
     → Going p s input whole before before s 0 0 false wants
 unfolding turns
 going-begun {p} {s} {input} {whole} {before} h {size} e w =
@@ -95,7 +115,7 @@ going-begun {p} {s} {input} {whole} {before} h {size} e w =
       moved = λ _. inr (refl, refl, refl);
     }
 
-module _ {p : Project} {s : State} {input : List ℕ} {whole : Bool} {before after : List ℕ} {state : State} {used written : ℕ} {over wants : Bool}
+module _ {p : Project} {s : State} {input : List ℕ} {whole : Bool} {before after : List ℕ} {state : State} {used written : ℕ} {over : Bool} {wants : ℕ}
     (g : Going p s input whole before after state used written over wants) where
   pub going-length : length after ≡ length before
   going-length = put-same (g .put)
@@ -129,7 +149,7 @@ module _ {p : Project} {s : State} {input : List ℕ} {whole : Bool} {before aft
         let n : u .taken ≤ length (drop used input) = facts .taken in
         rw (g .ran more had w, c .going, at-hand p state (drop used input) more whole at-hand-now w, t .state, t .taken, t .last, drop-append-le (u .taken) (drop used input) more n, drop-drop, append-assoc)
 
-    pub going-turn : {size : ℕ} → size ≡ loadBytes p → {later-wants : Bool}
+    pub going-turn : {size : ℕ} → size ≡ loadBytes p → {later-wants : ℕ}
         → later-wants ≡ wantsInput (p .options .duration) (r .state .clock .instant) whole (length input - (used + r .taken)) size
         → Going p s input whole before later (r .state) (used + r .taken) (r .at) (r .last) later-wants
     going-turn {size} e q =
@@ -150,9 +170,9 @@ module _ {p : Project} {s : State} {input : List ℕ} {whole : Bool} {before aft
             rw (t .state) (⊎-elim (λ b. omega (arith, b, m)) (λ b. omega (arith, b .2, m)) (g .moved (c .going)))
 
   -- where it can make no turn and has made none, it waits for input
-  pub going-ended : {size : ℕ} → size ≡ loadBytes p → size ≤ 5124 → canTurn over wants (length after - written) ≡ false
+  pub going-ended : canTurn over wants (length after - written) ≡ false
       → Ran p s input whole before after (record { number = 0; state = state; used = used; written = written; over = over; wants = wants })
-  going-ended {size} e few stop =
+  going-ended stop =
       record {
         count = g .count;
         lines = g .lines;
@@ -164,22 +184,17 @@ module _ {p : Project} {s : State} {input : List ℕ} {whole : Bool} {before aft
         ran = g .ran;
         ordered = g .ordered;
         wants = g .waits;
-        goes = λ z big. ⊎-elim (λ m. inl m) (λ m. inr (waiting z big m)) (g .moved z);
-        moves = λ z big h. ⊎-elim (λ m. m) (λ m. absurd (true≢false (sym (waiting z big m) ∙ served m h))) (g .moved z);
+        goes = λ z big. ⊎-elim (λ m. inl m) (λ m. inr (waiting z big m, m .2)) (g .moved z);
+        moves = λ z big h. ⊎-elim (λ m. m) (λ m. absurd (waiting z big m (served m h))) (g .moved z);
       }
     where
-      stopped : (over wants : Bool) (room : ℕ) → over ≡ false → 22 ≤ room → canTurn over wants room ≡ false → wants ≡ true
-      stopped true wants room z k q = absurd (true≢false z)
-      stopped false true room z k q = refl
-      stopped false false room z k q = absurd (true≢false (sym (le-leb 22 room k) ∙ q))
-
-      waiting : over ≡ false → 22 ≤ length before → (used ≡ 0) × (written ≡ 0) × (s .clock .instant ≡ state .clock .instant) → wants ≡ true
+      waiting : over ≡ false → 22 ≤ length before → (used ≡ 0) × (written ≡ 0) × (s .clock .instant ≡ state .clock .instant) → wants ≡ 0 → ⊥
       waiting z big m = stopped over wants (length after - written) z (omega (arith, m .1, going-length)) stop
 
-      served : (used ≡ 0) × (written ≡ 0) × (s .clock .instant ≡ state .clock .instant) → (whole ≡ true) ⊎ (5124 ≤ length input) → wants ≡ false
+      served : (used ≡ 0) × (written ≡ 0) × (s .clock .instant ≡ state .clock .instant) → (whole ≡ true) ⊎ (loadBytes p ≤ length input) → wants ≡ 0
       served m h =
           g .waits
-          ∙ enough whole (p .options .duration) (state .clock .instant) (length input - used) (loadBytes p) (⊎-elim (λ w. inl w) (λ k. inr (omega (arith, m .0, e, few))) h)
+          ∙ enough whole (p .options .duration) (state .clock .instant) (length input - used) (loadBytes p) (⊎-elim (λ w. inl w) (λ k. inr (omega (arith, m .0))) h)
 
 -- a turn on the part of the input that is left
 pub on-part : (p : Project) (s : State) (input : List ℕ) (used : ℕ) {at : ℕ} {before after : List ℕ} {r : Turned}

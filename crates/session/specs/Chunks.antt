@@ -5,7 +5,7 @@ use mathlib.Core.Path.{_≡_}
 use mathlib.Core.Bool.{Bool, true, false, cond}
 use mathlib.Core.Logic.{_⊎_}
 use mathlib.Core.List.{List, [], _++_}
-use lib.Dec.{ltb, leb}
+use lib.Dec.{ltb, leb, eqb}
 use lib.ListN.{length, take, drop}
 use Rattle.listing.specs.Text.{pasted}
 use Rattle.listing.specs.Listing.{Line, lineText, textOf}
@@ -25,13 +25,13 @@ pub record TurnedAs (t : Turn) (at : ℕ) (before after : List ℕ) (r : Turned)
   pub place : r .at ≡ at + length (lineText (t .line))
   pub room : r .at ≤ length before
 
--- whether a turn waits for more input: not where no more comes, and not at the duration, where none is read
-abbrev pub wantsInput : ℕ → ℕ → Bool → ℕ → ℕ → Bool
-wantsInput duration instant whole left size = cond whole false (cond (ltb instant duration) (ltb left size) false)
+-- how many bytes a turn waits for, a load's where fewer are left: 0 where no more come, and at the duration, where none is read
+abbrev pub wantsInput : ℕ → ℕ → Bool → ℕ → ℕ → ℕ
+wantsInput duration instant whole left size = cond whole 0 (cond (ltb instant duration) (cond (ltb left size) size 0) 0)
 
 -- whether there is room for a line, and input for a turn
-abbrev pub canTurn : Bool → Bool → ℕ → Bool
-canTurn over wants room = cond over false (cond wants false (leb 22 room))
+abbrev pub canTurn : Bool → ℕ → ℕ → Bool
+canTurn over wants room = cond over false (cond (eqb wants 0) (leb 22 room) false)
 
 -- r is a run of turns from s on the input, whatever may come after the input; its text stands at the start of the buffer.
 -- How many turns there are is left free, but that there is one wherever there can be.
@@ -49,12 +49,12 @@ pub record Ran (p : Project) (s : State) (input : List ℕ) (whole : Bool) (befo
       ≡ record { state = r .state; left = drop (r .used) input ++ more; lines = had ++ lines; over = r .over }
   pub ordered : inOrder p (r .state) ≡ true
   pub wants : r .wants ≡ wantsInput (p .options .duration) (r .state .clock .instant) whole (length input - r .used) (loadBytes p)
-  pub goes : r .over ≡ false → 22 ≤ length before → (s .clock .instant < r .state .clock .instant) ⊎ (r .wants ≡ true)
-  pub moves : r .over ≡ false → 22 ≤ length before → (whole ≡ true) ⊎ (5124 ≤ length input) → s .clock .instant < r .state .clock .instant
+  pub goes : r .over ≡ false → 22 ≤ length before → (s .clock .instant < r .state .clock .instant) ⊎ ((r .wants ≡ 0 → ⊥) × (s .clock .instant ≡ r .state .clock .instant))
+  pub moves : r .over ≡ false → 22 ≤ length before → (whole ≡ true) ⊎ (loadBytes p ≤ length input) → s .clock .instant < r .state .clock .instant
 
 -- "every later call, first: 10"; "a refused call yields the number and the same state"
 abbrev pub refusedChunk : State → Chunk
-refusedChunk s = record { number = 10; state = s; used = 0; written = 0; over = true; wants = false }
+refusedChunk s = record { number = 10; state = s; used = 0; written = 0; over = true; wants = 0 }
 
 pub record Advanced (p : Project) (s : State) (input : List ℕ) (whole : Bool) (before after : List ℕ) (r : Chunk) : Type 0 where
   pub refused : inOrder p s ≡ false → (r ≡ refusedChunk s) × (after ≡ before)

@@ -9,38 +9,43 @@ use judge::in_order;
 use model::*;
 
 // The number of the refusal, 0 where there is none; the state after the turns; how many bytes of the input they took and of the buffer they
-// filled; whether the run is over, and else whether it waits for more input.
+// filled; whether the run is over; and how many bytes the next turn waits for, 0 where it waits for none.
 pub struct Chunk {
     pub number: u32,
     pub state: State,
     pub used: usize,
     pub written: usize,
     pub over: bool,
-    pub wants: bool,
+    pub wants: usize,
 }
 
-fn wants_input(duration: u32, instant: u32, whole: bool, left: usize, size: usize) -> bool
+// How many bytes the next turn waits for.
+fn wants_input(duration: u32, instant: u32, whole: bool, left: usize, size: usize) -> usize
     ensures { λ r. ⌜ r ≡ wantsInput duration instant whole left size ⌝ }
 {
     if whole {
-        return false;
+        return 0;
     }
     if duration <= instant {
-        return false;
+        return 0;
     }
-    left < size
+    if left < size {
+        return size;
+    }
+    0
 }
 
-fn can_turn(over: bool, wants: bool, room: usize) -> bool
+// Whether there is room for a line, and input for a turn.
+fn can_turn(over: bool, wants: usize, room: usize) -> bool
     ensures { λ r. ⌜ r ≡ canTurn over wants room ⌝ }
 {
     if over {
         return false;
     }
-    if wants {
-        return false;
+    if wants == 0 {
+        return 22 <= room;
     }
-    22 <= room
+    false
 }
 
 // The turns of a chunk.
@@ -90,7 +95,7 @@ pub fn advance(p: Project, s: State, input: &[u8], whole: bool, out: &mut [u8]) 
             used: 0,
             written: 0,
             over: true,
-            wants: false,
+            wants: 0,
         };
     }
     run(p, s, input, whole, out)

@@ -83,7 +83,7 @@ same-length : tie.Need-same-length Inv-loop μ-loop
 same-length c = going-length (c .before .before .loop .inv .1)
 
 returns : tie.Need-returns Inv-loop μ-loop
-returns c = going-ended (c .before .before .loop .inv .1) (c .before .before .loop .inv .0) (omega (arith, c .before .before .before .before .load-words .ensures .1)) (sym (c .before .can-turn .ensures) ∙ c .if1 .left)
+returns c = going-ended (c .before .before .loop .inv .1) (sym (c .before .can-turn .ensures) ∙ c .if1 .left)
 
 pub run-spec : {M : Type 1} → statement M
 run-spec =
