@@ -48,7 +48,8 @@ fn read(from: i32, buf: &mut [u8]) -> usize
 // come and fits, and none is made once they are there, so that nobody has to end an input to be answered.
 fn read_until(from: i32, buf: &mut [u8], have: usize, need: usize) -> usize
     requires { ⌜ have ≤ length (now buf) ⌝ }
-    ensures { λ r. ⌜ r ≤ length (now (buf .entry)) ⌝ }
+    ensures { λ r. ⌜ (have ≤ r) × (r ≤ length (now (buf .entry))) ⌝ }
+    ensures { λ _. ⌜ take have (now (buf .exit)) ≡ take have (now (buf .entry)) ⌝ }
 {
     let mut n = have;
     while n < need {
@@ -64,7 +65,7 @@ fn read_until(from: i32, buf: &mut [u8], have: usize, need: usize) -> usize
 // Where wants is not 0: moves what is left of the input to the front, and reads until there are as many bytes.
 fn refill(input: &mut [u8], h: Held, wants: usize, from: i32) -> Held
     requires { ⌜ (h .used ≤ h .have) × (h .have ≤ length (now input)) ⌝ }
-    ensures { λ r. ⌜ Filled wants (length (now (input .entry))) r ⌝ }
+    ensures { λ r. ⌜ Filled h wants (now (input .entry)) (now (input .exit)) r ⌝ }
 {
     let used = h.used;
     let have = h.have;
