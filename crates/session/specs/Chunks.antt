@@ -64,7 +64,7 @@ pub record Advanced (p : Project) (s : State) (input : List ℕ) (whole : Bool) 
 -- that are left; where it is told that no more comes, there is no more.
 pub data Chunked (p : Project) : State → List ℕ → List ℕ → Type 0 where
   last : {s : State} {input rest : List ℕ} {whole : Bool} {before after : List ℕ} {r : Chunk} → Advanced p s input whole before after r
-    → (whole ≡ true → rest ≡ []) → r .over ≡ true → Chunked p s (input ++ rest) (take (r .written) after)
+      → (whole ≡ true → rest ≡ []) → r .over ≡ true → Chunked p s (input ++ rest) (take (r .written) after)
   more : {s : State} {input rest : List ℕ} {whole : Bool} {before after : List ℕ} {r : Chunk} {text : List ℕ} → Advanced p s input whole before after r
-    → (whole ≡ true → rest ≡ []) → r .over ≡ false → Chunked p (r .state) (drop (r .used) input ++ rest) text
-    → Chunked p s (input ++ rest) (take (r .written) after ++ text)
+      → (whole ≡ true → rest ≡ []) → r .over ≡ false → Chunked p (r .state) (drop (r .used) input ++ rest) text
+      → Chunked p s (input ++ rest) (take (r .written) after ++ text)

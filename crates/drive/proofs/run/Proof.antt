@@ -64,7 +64,7 @@ add-held : tie.Need-add-held Inv-loop μ-loop
 add-held c = let start = c .before .before .before .before .before .before .before .before .before .before .before .before .before .before .before .before .before .before .before .before .before .before .before .before .before .before in let g = c .before .before .before .before .before .before .before .before .before .before .before .before .before .before .before .loop .inv in omega (arith, advanced-used (c .before .before .before .before .before .before .advance .ensures), part-length (c .before .before .before .before .before .before .before .before .before .before .before .before .refill .last .0) (c .before .before .before .before .before .before .before .before .before .before .before .before .refill .result .used) (c .before .before .before .before .before .before .before .before .before .before .before .before .refill .result .have) (c .before .before .before .before .before .before .before .before .before .before .before .before .refill .ensures .used) (omega (arith, c .before .before .before .before .before .before .before .before .before .before .before .before .refill .ensures .have, c .before .before .before .before .before .before .before .before .before .before .before .before .refill .kept .0)), c .before .before .before .before .before .before .before .before .before .before .before .before .refill .ensures .used, c .before .before .before .before .before .before .before .before .before .before .before .before .refill .ensures .have, c .before .before .before .before .before .before .before .before .before .before .before .before .refill .kept .0, g .input)
 
 loop-less : tie.Need-loop-less Inv-loop μ-loop
-loop-less c = 
+loop-less c =
     let g = c .before .before .before .before .before .before .before .before .before .before .before .before .before .before .before .loop .inv in
     let n = part-length (c .before .before .before .before .before .before .before .before .before .before .before .before .refill .last .0) (c .before .before .before .before .before .before .before .before .before .before .before .before .refill .result .used) (c .before .before .before .before .before .before .before .before .before .before .before .before .refill .result .have) (c .before .before .before .before .before .before .before .before .before .before .before .before .refill .ensures .used) (omega (arith, c .before .before .before .before .before .before .before .before .before .before .before .before .refill .ensures .have, c .before .before .before .before .before .before .before .before .before .before .before .before .refill .kept .0)) in
     rw (not-true (c .before .before .before .before .before .before .before .before .before .before .before .before .before .before .before .loop .over) (c .before .before .before .before .before .before .before .before .before .before .before .before .before .before .loop-test .taken))
@@ -72,7 +72,7 @@ loop-less c =
     (omega (arith, g .out, c .before .before .before .before .before .before .before .before .before .before .before .before .before .before .before .before .before .before .before .before .before .before .put-header .kept .0, c .before .before .before .before .before .before .before .before .before .before .before .before .before .before .before .before .before .before .before .before .before .before .before .before .before .before .pre)))
 
 loop-again : tie.Need-loop-again Inv-loop μ-loop
-loop-again c = 
+loop-again c =
     let g = c .before .before .before .before .before .before .before .before .before .before .before .before .before .before .before .loop .inv in
     let n = part-length (c .before .before .before .before .before .before .before .before .before .before .before .before .refill .last .0) (c .before .before .before .before .before .before .before .before .before .before .before .before .refill .result .used) (c .before .before .before .before .before .before .before .before .before .before .before .before .refill .result .have) (c .before .before .before .before .before .before .before .before .before .before .before .before .refill .ensures .used) (omega (arith, c .before .before .before .before .before .before .before .before .before .before .before .before .refill .ensures .have, c .before .before .before .before .before .before .before .before .before .before .before .before .refill .kept .0)) in
     record {

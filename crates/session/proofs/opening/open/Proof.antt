@@ -27,7 +27,7 @@ decode-requires : tie.Need-decode-requires
 decode-requires c κs = search needs
 
 returns : tie.Need-returns
-returns c = 
+returns c =
     let w = c .before .before .before .words-of in
     let n = w .ensures .0 ∙ ap (min (length (c .before .before .before .before .before .before .before .args .bytes .now) / 4)) (sym (c .before .before .before .before .before .image-space .ensures)) in
     opened-as (c .before .before .before .before .before .before .before .args .bytes .now) _ _ _ n (w .ensures .1) (c .decode .ensures)

@@ -18,7 +18,7 @@ same-length : tie.Need-same-length
 same-length c = search needs
 
 returns : tie.Need-returns
-returns c = 
+returns c =
     let a = c .before .before .before .before .before .before .before .before .args in
     let q = c .before .before .before .put-step-line .ensures in
     step-made (a .p) (a .s) (a .taken) (c .before .before .before .before .before .before .before .before .pre .0) (c .before .before .before .before .before .before .update-tank-links .ensures) (c .before .before .before .before .before .next-hydraulic-timestep .ensures) (c .before .before .before .before .before .before .before .before .pre .1) (q .0) (q .1)
