@@ -5,7 +5,7 @@ use mathlib.Core.Bool.{Bool, true, false, cond, true≢false}
 use mathlib.Core.List.{List}
 use mathlib.Core.Logic.{_⊎_, inl, inr, ⊎-elim}
 use native.Mathlib.Omega.{arith}
-use borrow.Author.Tests.{eq-eqb, ne-eqb}
+use borrow.Author.Tests.{ne-eqb}
 use lib.Dec.{eqb}
 use lib.ListN.{length}
 use Rattle.clock.proofs.Tests.{eqb-ind}
@@ -16,7 +16,7 @@ use Rattle.sound.proofs.Theorem.{state-of}
 use Rattle.drive.specs.declared.Held.{Held}
 use Rattle.session.specs.declared.chunk.Chunk.{Chunk}
 use Rattle.session.specs.Turns.{loadBytes}
-use Rattle.session.specs.Chunks.{Ran, Advanced, wantsInput}
+use Rattle.session.specs.Chunks.{Ran, Advanced}
 use Rattle.session.proofs.Going.{wants-load}
 
 -- what is left to do: a step's seconds count twice, and a chunk that may wait for input once

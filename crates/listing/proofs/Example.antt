@@ -1,10 +1,9 @@
 -- The worked example of document 01 is what the definition gives, computed; and the longest lines.
 -- Assumes nothing.
-use Prim.Native.Nat.{ℕ}
 use mathlib.Core.Path.{_≡_, refl}
-use mathlib.Core.List.{List, [], _∷_, _++_}
+use mathlib.Core.List.{[], _∷_, _++_}
 use Rattle.listing.specs.Numbers.{decimalDigits, hexDigit, hexDigits, hexText}
-use Rattle.listing.specs.Listing.{stepLine, textOf, listing, Line, step, finished, refused}
+use Rattle.listing.specs.Listing.{stepLine, textOf, listing, step, finished, refused}
 
 -- "from length", "0 3600", "3600 3600", "7200 2800", "steps 3"
 pub document-01 : listing (step 0 3600 ∷ step 3600 3600 ∷ step 7200 2800 ∷ finished 3 ∷ [])

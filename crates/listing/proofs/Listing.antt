@@ -6,7 +6,7 @@ use mathlib.Core.List.{List, [], _∷_, _++_, append-assoc, append-nil}
 use native.Mathlib.Omega.{arith}
 use lib.ListN.{length, length-append}
 use Rattle.listing.specs.Numbers.{decimalText}
-use Rattle.listing.specs.Listing.{stepLine, labelled, stepsLine, refusedLine, Line, lineText, textOf}
+use Rattle.listing.specs.Listing.{stepLine, labelled, Line, lineText, textOf}
 use Rattle.listing.proofs.Digits.{digits-count}
 
 pub step-length : (from seconds : ℕ) → length (stepLine from seconds) ≡ length (decimalText from) + length (decimalText seconds) + 2

@@ -1,6 +1,6 @@
 -- A run of turns on the input at hand, its text put into a buffer. What carries it: a turn looks at no more than what is at hand, and every turn
 -- but the last moves the clock. Assumes nothing.
-use Prim.Native.Nat.{ℕ, zero, suc, _+_, _-_, _*_, _≤_, _<_}
+use Prim.Native.Nat.{ℕ, suc, _+_, _-_, _≤_, _<_}
 use mathlib.Core.Path.{_≡_, refl, sym, ap, _∙_, subst}
 use mathlib.Core.Bool.{Bool, true, false, cond, true≢false}
 use mathlib.Core.List.{List, [], _∷_, _++_, append-nil, append-assoc}
@@ -19,8 +19,7 @@ use Rattle.model.specs.declared.state.State.{State}
 use Rattle.judge.specs.Judgement.{inOrder}
 use Rattle.sound.proofs.Theorem.{state-of}
 use Rattle.session.specs.declared.turns.Turned.{Turned}
-use Rattle.session.specs.declared.chunk.Chunk.{Chunk}
-use Rattle.session.specs.Turns.{Turn, Run, turn, joined, next, turns, loadBytes}
+use Rattle.session.specs.Turns.{Turn, turn, turns, loadBytes}
 use Rattle.session.specs.Chunks.{TurnedAs, wantsInput, canTurn, Ran}
 use Rattle.session.proofs.Turning.{Known, known, turn-more, turn-done}
 

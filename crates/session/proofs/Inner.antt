@@ -1,6 +1,6 @@
 -- On a state in order each public call is the function behind it, so that the loop may leave out the judgement. Assumes nothing.
-use mathlib.Core.Path.{_≡_, refl, ap, _∙_}
-use mathlib.Core.Bool.{Bool, true, cond}
+use mathlib.Core.Path.{_≡_, ap, _∙_}
+use mathlib.Core.Bool.{true, cond}
 use mathlib.Core.List.{List}
 use Prim.Native.Nat.{ℕ}
 use lib.Dec.{eqb}
@@ -15,7 +15,7 @@ use Rattle.load.specs.Loads.{loadFault, takeLoad}
 use Rattle.solver.specs.Closing.{updateTankLinks}
 use Rattle.simulation.specs.Steps.{nextHydraulicTimestep}
 use Rattle.calls.specs.Calls.{gives, judged, patterns, controls, load, tankLinks, step}
-use Rattle.sound.proofs.Theorem.{tables-of, patterns-in-order, controls-in-order}
+use Rattle.sound.proofs.Theorem.{tables-of, patterns-in-order}
 use Rattle.session.specs.Turns.{prepared}
 
 module _ (p : Project) (s : State) (e : inOrder p s ≡ true) where

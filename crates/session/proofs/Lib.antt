@@ -4,3 +4,4 @@ pub mod Cases
 pub mod Going
 pub mod Counting
 pub mod Whole
+pub mod Tally

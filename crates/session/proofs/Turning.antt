@@ -1,17 +1,16 @@
 -- What is known of every turn: by soundness it leaves a state in order, and every turn but the last moves the clock. Assumes nothing.
-use Prim.Native.Nat.{ℕ, zero, suc, _+_, _-_, _*_, _≤_, _<_}
-use mathlib.Core.Path.{_≡_, refl, sym, ap, _∙_, subst}
-use mathlib.Core.Bool.{Bool, true, false, cond, true≢false}
-use mathlib.Core.List.{List, [], _∷_, _++_}
+use Prim.Native.Nat.{ℕ, _+_, _-_, _≤_, _<_}
+use mathlib.Core.Path.{_≡_, refl, sym, ap, _∙_}
+use mathlib.Core.Bool.{true, false, cond, true≢false}
+use mathlib.Core.List.{List, _++_}
 use native.Mathlib.Omega.{arith}
 use borrow.Author.Tests.{lt-ltb, le-ltb, ne-eqb}
-use lib.Dec.{ltb, eqb}
+use lib.Dec.{ltb}
 use lib.ListN.{length, length-append}
 use Rattle.clock.proofs.Lengths.{length-positive}
 use Rattle.clock.proofs.Tests.{ltb-ind, eqb-ind}
 use Rattle.clock.specs.declared.hand.Clock.{Clock}
-use Rattle.listing.specs.Listing.{Line, lineText}
-use Rattle.listing.proofs.Listing.{line-short}
+use Rattle.listing.specs.Listing.{Line}
 use Rattle.words.specs.Words.{firstWords}
 use Rattle.words.proofs.Filling.{words-more}
 use Rattle.model.specs.declared.project.Project.{Project}
@@ -19,8 +18,7 @@ use Rattle.model.specs.declared.state.State.{State}
 use Rattle.judge.specs.Judgement.{inOrder}
 use Rattle.simulation.specs.Steps.{timesOf, triggersOf, momentOf}
 use Rattle.calls.specs.Calls.{patterns, controls, load, tankLinks, step}
-use Rattle.calls.specs.declared.Called.{Called}
-use Rattle.sound.proofs.Theorem.{state-of, patterns-in-order, controls-in-order, load-in-order, tank-links-in-order}
+use Rattle.sound.proofs.Theorem.{patterns-in-order, controls-in-order, load-in-order, tank-links-in-order}
 use Rattle.sound.proofs.Step.{step-in-order}
 use Rattle.demand3.specs.Calls as asking
 use Rattle.demand3.specs.Calls.{outcome}
@@ -46,20 +44,29 @@ pub prepared-in-order : (p : Project) (s : State) → inOrder p s ≡ true → i
 unfolding prepared
 prepared-in-order p s e = controls-in-order p (patterns p s .state) (patterns-in-order p s e)
 
--- a step before the duration moves the instant
-step-moves : (p : Project) (s : State) → inOrder p s ≡ true → s .clock .instant < p .options .duration → s .clock .instant < step p s .state .clock .instant
+-- a step before the duration moves the instant, and is counted
+step-moves : (p : Project) (s : State) → inOrder p s ≡ true → s .clock .instant < p .options .duration
+    → (s .clock .instant < step p s .state .clock .instant) × (step p s .state .clock .count ≡ s .clock .count + 1)
 unfolding outcome timesOf
 step-moves p s e l =
     let k = lawful p .step asking.step s e refl in
     let m = length-positive (timesOf p) (triggersOf p) (momentOf p s) (s .clock .instant) (accepted-times p (fit p s e)) l in
-    omega (arith, k .length, k .instant, m)
+    let some : 0 < step p s .length = omega (arith, k .length, m) in
+    (omega (arith, k .instant, some), k .count ∙ rw (lt-ltb 0 (step p s .length) some))
 
 -- ---- a turn
+-- its line: a step, which is counted; or the end, with the count; or the end at a fault
+pub data Printed (s : State) : Turn → Type 0 where
+  stepped : (q : State) (taken from seconds : ℕ) → q .clock .count ≡ s .clock .count + 1 → Printed s (record { state = q; taken = taken; line = Line.step from seconds; last = false })
+  finished : (q : State) → Printed s (endTurn q (Line.finished (s .clock .count)))
+  refused : (q : State) (number : ℕ) → Printed s (endTurn q (Line.refused number))
+
 pub record Known (p : Project) (s : State) (size : ℕ) (t : Turn) : Type 0 where
   pub ordered : inOrder p (t .state) ≡ true
   pub taken : t .taken ≤ size
   pub moves : t .last ≡ false → s .clock .instant < t .state .clock .instant
   pub stays : t .last ≡ true → t .state .clock ≡ s .clock
+  pub printed : Printed s t
 
 module _ {p : Project} (s q : State) (e : inOrder p q ≡ true) (same : q .clock ≡ s .clock) where
   known-step : (size taken : ℕ) → s .clock .instant < p .options .duration → taken ≤ size → Known p s size (stepTurn p q taken)
@@ -69,15 +76,18 @@ module _ {p : Project} (s q : State) (e : inOrder p q ≡ true) (same : q .clock
       let o = tank-links-in-order p q e in
       let c : closed .clock ≡ s .clock = closed-clock p q ∙ same in
       let i : closed .clock .instant ≡ s .clock .instant = ap (λ (x : Clock). x .instant) c in
+      let n : closed .clock .count ≡ s .clock .count = ap (λ (x : Clock). x .count) c in
+      let m = step-moves p closed o (omega (arith, i)) in
       record {
         ordered = step-in-order p closed o;
         taken = k;
-        moves = λ _. omega (arith, i, step-moves p closed o (omega (arith, i)));
+        moves = λ _. omega (arith, i, m .0);
         stays = λ z. absurd (true≢false (sym z));
+        printed = stepped (step p closed .state) taken (closed .clock .instant) (step p closed .length) (omega (arith, n, m .1));
       }
 
-  known-end : (size : ℕ) (end : Line) → Known p s size (endTurn q end)
-  known-end size end = record { ordered = e; taken = omega arith; moves = λ z. absurd (true≢false z); stays = λ _. same }
+  known-end : (size : ℕ) (end : Line) → Printed s (endTurn q end) → Known p s size (endTurn q end)
+  known-end size end t = record { ordered = e; taken = omega arith; moves = λ z. absurd (true≢false z); stays = λ _. same; printed = t }
 
 known-load : {p : Project} {s : State} (q : State) (e : inOrder p q ≡ true) → q .clock ≡ s .clock → s .clock .instant < p .options .duration
     → (size : ℕ) (words : List ℕ) → loadBytes p ≤ size → Known p s size (loadTurn p (load p words q))
@@ -88,7 +98,7 @@ known-load {p} {s} q e same l size words k =
     let c = load-clock p words q ∙ same in
     eqb-ind (λ b. Known p s size (cond b (stepTurn p (answer .state) (loadBytes p)) (endTurn (answer .state) (Line.refused (answer .number))))) (answer .number) 0
     (λ _. known-step s (answer .state) o c size (loadBytes p) l k)
-    (λ _. known-end s (answer .state) o c size (Line.refused (answer .number)))
+    (λ _. known-end s (answer .state) o c size (Line.refused (answer .number)) (refused (answer .state) (answer .number)))
 
 known-input : {p : Project} {s : State} (q : State) → inOrder p q ≡ true → q .clock ≡ s .clock → s .clock .instant < p .options .duration
     → (bytes : List ℕ) → Known p s (length bytes) (inputTurn p q bytes)
@@ -99,7 +109,7 @@ known-input {p} {s} q e same l bytes =
     (λ _. known-step s q e same (length bytes) 0 l (omega arith))
     (λ _.
     ltb-ind (λ b. Known p s (length bytes) (cond b (endTurn q (Line.refused 7)) (loadTurn p (load p words q)))) (length bytes) (loadBytes p)
-    (λ _. known-end s q e same (length bytes) (Line.refused 7))
+    (λ _. known-end s q e same (length bytes) (Line.refused 7) (refused q 7))
     (λ k. known-load q e same l (length bytes) words k))
 
 pub known : (p : Project) (s : State) (bytes : List ℕ) → inOrder p s ≡ true → Known p s (length bytes) (turn p s bytes)
@@ -107,7 +117,7 @@ unfolding turn
 known p s bytes e =
     ltb-ind (λ b. Known p s (length bytes) (cond b (inputTurn p (prepared p s) bytes) (endTurn s (Line.finished (s .clock .count))))) (s .clock .instant) (p .options .duration)
     (λ l. known-input (prepared p s) (prepared-in-order p s e) (prepared-clock p s) l bytes)
-    (λ _. known-end s s e refl (length bytes) (Line.finished (s .clock .count)))
+    (λ _. known-end s s e refl (length bytes) (Line.finished (s .clock .count)) (finished s))
 
 -- ---- what a turn does not look at
 -- a turn that has its load at hand does not look further

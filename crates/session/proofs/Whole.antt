@@ -2,8 +2,8 @@
 -- run is over after duration + 1 of them. Assumes nothing.
 use Prim.Native.Nat.{ℕ, zero, suc, _+_, _-_, _*_, _≤_, _<_}
 use mathlib.Core.Path.{_≡_, refl, sym, ap, _∙_}
-use mathlib.Core.Bool.{Bool, true, false, cond}
-use mathlib.Core.List.{List, [], _∷_, _++_, append-assoc}
+use mathlib.Core.Bool.{Bool, true, false}
+use mathlib.Core.List.{List, [], _++_, append-assoc}
 use native.Mathlib.Nat.{add-comm, add-suc, add-zero}
 use native.Mathlib.Omega.{arith}
 use borrow.Author.Tests.{lt-ltb, le-ltb, eq-eqb, ne-eqb}
@@ -12,7 +12,7 @@ use lib.Seq.{drop-at}
 use Rattle.listing.specs.Listing.{Line, header, textOf, refusedLine}
 use Rattle.listing.proofs.Listing.{text-append}
 use Rattle.listing.proofs.Pasting.{pasted-take}
-use Rattle.words.specs.Words.{firstWords, wordAt}
+use Rattle.words.specs.Words.{firstWords}
 use Rattle.words.proofs.Filling.{words-more}
 use Rattle.model.specs.declared.project.Project.{Project}
 use Rattle.model.specs.declared.state.State.{State}
@@ -23,8 +23,8 @@ use Rattle.calls.specs.Calls.{start}
 use Rattle.sound.proofs.Theorem.{state-of, start-in-order}
 use Rattle.demand3.proofs.Lawful.{start-accepted}
 use Rattle.session.specs.declared.chunk.Chunk.{Chunk}
-use Rattle.session.specs.Turns.{Turn, Run, turn, joined, next, turns, linesFrom, opened, imageWords, printed}
-use Rattle.session.specs.Chunks.{Ran, Advanced, Chunked}
+use Rattle.session.specs.Turns.{Run, turn, joined, next, turns, linesFrom, opened, imageWords, printed}
+use Rattle.session.specs.Chunks.{Ran, Chunked}
 use Rattle.session.proofs.Turning.{Known, known}
 
 module _ (p : Project) where
@@ -66,6 +66,9 @@ module _ (p : Project) where
   ends zero r h l = absurd (omega arith)
   ends (suc n) r h l = ends-from n r h l (ends n)
 
+  pub run-ends : (r : Run) → inOrder p (r .state) ≡ true → turns (suc (p .options .duration)) p r .over ≡ true
+  run-ends r h = ends (suc (p .options .duration)) r h (omega arith)
+
   over-lines : (r : Run) → r .over ≡ true → linesFrom p r ≡ r .lines
   unfolding linesFrom
   over-lines r e = ap (λ (x : Run). x .lines) (stays (suc (p .options .duration)) r e)
@@ -75,7 +78,7 @@ module _ (p : Project) where
   unfolding linesFrom
   turns-lines n r h =
       let last : ℕ = suc (p .options .duration) in
-      let over : turns last p r .over ≡ true = ends last r h (omega arith) in
+      let over : turns last p r .over ≡ true = run-ends r h in
       ap (λ (x : Run). x .lines)
       (more-turns n last r ∙ ap (λ (m : ℕ). turns m p r) (add-comm n last) ∙ sym (more-turns last n r) ∙ stays n (turns last p r) over)
 

@@ -14,7 +14,7 @@ use Rattle.model.specs.declared.state.State.{State}
 use Rattle.judge.specs.Judgement.{inOrder}
 use Rattle.session.specs.declared.turns.Turned.{Turned}
 use Rattle.session.specs.declared.chunk.Chunk.{Chunk}
-use Rattle.session.specs.Turns.{Turn, Run, turns, loadBytes}
+use Rattle.session.specs.Turns.{Turn, turns, loadBytes}
 
 -- r is the turn t, its text put into the buffer from `at` on
 pub record TurnedAs (t : Turn) (at : ℕ) (before after : List ℕ) (r : Turned) : Type 0 where

@@ -95,6 +95,7 @@ fn input_turn(p: Project, s: State, bytes: &[u8], out: &mut [u8], at: usize) -> 
     refused_turn(state, number, out, at)
 }
 
+// One turn.
 pub fn turn(p: Project, s: State, bytes: &[u8], out: &mut [u8], at: usize) -> Turned
     requires { ⌜ inOrder p s ≡ true ⌝ }
     requires { ⌜ at + 22 ≤ length (now out) ⌝ }

@@ -1,5 +1,5 @@
--- `drive::read_until` meets its contract. Assumes nothing.
-use Prim.Native.Nat.{_+_, _-_, _≤_}
+-- `drive::read_until` meets its contract: the bytes in front stay. Assumes nothing.
+use Prim.Native.Nat.{_-_, _≤_}
 use mathlib.Core.Path.{_≡_, refl, _∙_}
 use lib.ListN.{length, take}
 use Rattle.drive.proofs.Shifting.{front-stays}

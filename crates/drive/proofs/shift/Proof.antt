@@ -1,6 +1,6 @@
--- `drive::shift` meets its contract. Assumes nothing.
+-- `drive::shift` meets its contract: what has been moved is the front of the buffer. Assumes nothing.
 use Prim.Native.Nat.{_+_, _-_, _≤_}
-use mathlib.Core.Path.{_≡_, refl, sym, ap, _∙_}
+use mathlib.Core.Path.{_≡_, refl}
 use mathlib.Core.List.{_++_}
 use borrow.Author.Needs.{needs}
 use lib.ListN.{length, take, drop, length-set}

@@ -1,3 +1,4 @@
+-- `listing::decimal::put_decimal` meets its contract: the room is asked for by the digits counted. Assumes nothing.
 use borrow.Author.Needs.{needs}
 use borrow.Author.Tests.{not-true, not-false}
 use Rattle.listing.specs.Numbers.{decimalText}

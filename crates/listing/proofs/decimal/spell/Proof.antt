@@ -1,12 +1,9 @@
-use Prim.Native.Nat.{ℕ, suc, _+_, _-_, _≤_, _<_, _^_}
-use mathlib.Core.Path.{_≡_, refl, ap, _∙_}
-use mathlib.Core.List.{List, [], _∷_, _++_}
+-- `listing::decimal::spell` meets its contract: the digits are written from the last to the first. Assumes nothing.
+use Prim.Native.Nat.{_-_}
 use native.Mathlib.Omega.{arith}
 use borrow.Author.Needs.{needs}
-use lib.ListN.{length, take, drop, set, length-set, take-append-drop}
-use Rattle.listing.specs.Text.{pasted}
-use Rattle.listing.specs.Numbers.{decimalText}
-use Rattle.listing.proofs.Digits.{Spelled, spelled-begun, spelled-more, spelled-ended, spelled-last, split-begun}
+use lib.ListN.{length-set}
+use Rattle.listing.proofs.Digits.{Spelled, spelled-begun, spelled-more, spelled-ended, spelled-last}
 use Rattle.listing.proofs.decimal.spell.Statement.{statement}
 use Rattle.listing.proofs.decimal.spell.Tie as tie
 

@@ -1,3 +1,4 @@
+-- `listing::hexadecimal::hex_digit` meets its contract. Assumes nothing.
 use borrow.Author.Tests.{lt-ltb, le-ltb}
 use borrow.Author.Needs.{needs}
 use Rattle.listing.specs.Numbers.{hexDigit}

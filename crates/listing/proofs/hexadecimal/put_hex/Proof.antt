@@ -1,3 +1,4 @@
+-- `listing::hexadecimal::put_hex` meets its contract: a space, the high half and the low half are put one behind the other. Assumes nothing.
 use mathlib.Core.List.{[], _∷_}
 use native.Mathlib.Omega.{arith}
 use borrow.Author.Needs.{needs}

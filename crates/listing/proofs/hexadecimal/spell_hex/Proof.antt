@@ -1,7 +1,7 @@
+-- `listing::hexadecimal::spell_hex` meets its contract: the digits are written from the last to the first. Assumes nothing.
 use Prim.Native.Nat.{_-_}
 use native.Mathlib.Omega.{arith}
 use borrow.Author.Needs.{needs}
-use lib.ListN.{length-set}
 use Rattle.listing.specs.Numbers.{hexDigits}
 use Rattle.listing.proofs.HexDigits.{HexSpelled, hex-count, hex-begun, hex-more, hex-ended}
 use Rattle.listing.proofs.hexadecimal.spell_hex.Statement.{statement}

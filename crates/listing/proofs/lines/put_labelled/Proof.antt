@@ -1,3 +1,4 @@
+-- `listing::lines::put_labelled` meets its contract: the label, the number and the end are put one behind the other. Assumes nothing.
 use mathlib.Core.List.{[], _∷_}
 use native.Mathlib.Omega.{arith}
 use borrow.Author.Needs.{needs}

@@ -1,3 +1,4 @@
+-- `listing::lines::put_step_line` meets its contract: the two numbers, the space and the end are put one behind the other. Assumes nothing.
 use mathlib.Core.List.{[], _∷_}
 use native.Mathlib.Omega.{arith}
 use borrow.Author.Needs.{needs}

@@ -1,12 +1,12 @@
+-- `listing::text::copy_text` meets its contract: what has been copied is the front of the text. Assumes nothing.
 use Prim.Native.Nat.{_+_, _-_, _≤_, _<_}
-use mathlib.Core.Path.{_≡_, refl, sym, ap, _∙_}
+use mathlib.Core.Path.{_≡_, refl}
 use mathlib.Core.List.{[], _∷_}
 use native.Mathlib.Numerals.{add-one}
-use native.Mathlib.Omega.{arith}
 use borrow.Author.Needs.{needs}
 use lib.ListN.{length, take, getD, length-set}
 use lib.Seq.{take-suc, take-all}
-use Rattle.listing.proofs.Pasting.{Put, put-begun, put-then, put-as, put-same, pasted-byte}
+use Rattle.listing.proofs.Pasting.{Put, put-begun, put-then, put-as, pasted-byte}
 use Rattle.listing.proofs.text.copy_text.Statement.{statement}
 use Rattle.listing.proofs.text.copy_text.Tie as tie
 

@@ -1,3 +1,4 @@
+-- `listing::text::put_byte` meets its contract. Assumes nothing.
 use mathlib.Core.Path.{refl}
 use borrow.Author.Needs.{needs}
 use Rattle.listing.proofs.Pasting.{pasted-byte}

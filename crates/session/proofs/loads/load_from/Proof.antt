@@ -1,6 +1,6 @@
--- `session::loads::load_from` meets its contract. Assumes nothing.
+-- `session::loads::load_from` meets its contract: the words are lent, filled and read. Assumes nothing.
 use Prim.Native.Nat.{ℕ, _*_, _≤_}
-use mathlib.Core.Path.{_≡_, sym, ap, _∙_}
+use mathlib.Core.Path.{sym, ap, _∙_}
 use mathlib.Core.List.{List}
 use lib.ListN.{length}
 use lib.Seq.{length-take-le}

@@ -1,4 +1,4 @@
--- `session::loads::value_count` meets its contract. Assumes nothing.
+-- `session::loads::value_count` meets its contract: the count rises by one at each junction. Assumes nothing.
 use Prim.Native.Nat.{_+_, _-_, _≤_}
 use mathlib.Core.Path.{_≡_, sym, _∙_}
 use Rattle.load.proofs.Values.{values-first, values-next, values-all}

@@ -1,4 +1,4 @@
--- `session::turns::input_turn` meets its contract. Assumes nothing.
+-- `session::turns::input_turn` meets its contract: one law a case. Assumes nothing.
 use Rattle.session.proofs.Inner.{fit}
 use Rattle.session.proofs.Cases.{turned-as, input-none, input-cut, input-taken, input-refused, answer-in-order}
 use borrow.Author.Needs.{needs}

@@ -1,4 +1,4 @@
--- `session::turns::prepared` meets its contract. Assumes nothing.
+-- `session::turns::prepared` meets its contract: on a state in order the public calls are the functions behind them. Assumes nothing.
 use mathlib.Core.Path.{sym, _∙_}
 use Rattle.session.proofs.Inner.{fit, prepared-inner}
 use Rattle.session.proofs.turns.prepared.Statement.{statement}

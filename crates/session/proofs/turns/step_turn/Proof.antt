@@ -1,4 +1,4 @@
--- `session::turns::step_turn` meets its contract. Assumes nothing.
+-- `session::turns::step_turn` meets its contract: on a state in order the public calls are the functions behind them. Assumes nothing.
 use Rattle.session.proofs.Inner.{fit}
 use Rattle.session.proofs.Cases.{step-made}
 use borrow.Author.Needs.{needs}

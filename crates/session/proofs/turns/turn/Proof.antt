@@ -1,4 +1,4 @@
--- `session::turns::turn` meets its contract. Assumes nothing.
+-- `session::turns::turn` meets its contract: one law a case. Assumes nothing.
 use Rattle.session.proofs.Turning.{prepared-in-order}
 use Rattle.session.proofs.Cases.{turned-as, turn-finished, turn-goes}
 use borrow.Author.Needs.{needs}
