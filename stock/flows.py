@@ -63,6 +63,14 @@ def rounded(number):
     return round(number, PLACES) + 0.0  # no -0.0
 
 
+def total(numbers):
+    """The sum from left to right; Python's own sum differs from version to version."""
+    result = 0.0
+    for number in numbers:
+        result += number
+    return result
+
+
 class Balance:
     """The flows and heads at which every junction gets what it draws."""
 
@@ -123,7 +131,7 @@ class Balance:
         for one in sorted(set(part) - held):
             inside = [index for index, number in enumerate(part) if number == one]
             feeding = [number for number, (_, end) in ends.items() if part[end] == one]
-            drawn, given = sum(self.draws[index] for index in inside), sum(self.flows[number] for number in feeding)
+            drawn, given = total(self.draws[index] for index in inside), total(self.flows[number] for number in feeding)
             for index in inside:
                 self.draws[index] *= min(1.0, given / drawn) if drawn > 0.0 else 0.0
                 self.still[index] += PUMPED if given > 0.0 else 0.0
@@ -194,7 +202,7 @@ def solved(diagonal, pairs, right, start):
         return result
 
     def inner(one, other):
-        return sum(one[index] * other[index] for index in diagonal)
+        return total(one[index] * other[index] for index in diagonal)
 
     solution, image = dict(start), product(start)
     rest = {index: right[index] - image[index] for index in diagonal}

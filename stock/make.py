@@ -1,8 +1,8 @@
 #!/usr/bin/env python3
 """Makes the files of the stock that are not written by hand, or checks that they are what this makes.
 
-    stock/make.py [--oracle PATH]            writes texts and loads that are generated, and images; with the oracle, listings
-    stock/make.py --check [--oracle PATH]    writes nothing; names each file that differs, and ends with code 1 if any does
+    stock/make.py [--oracle PATH]            writes what is generated, the images and, by the oracle, the listings
+    stock/make.py --check [--oracle PATH]    writes nothing; names each file that differs; code 1 if one does
     stock/make.py --causes                   what ends the steps of each works, counted
 
 The oracle is the Rust of compare/rust. A listing comes from nowhere else. Without the oracle --check compares the

@@ -49,8 +49,8 @@ def text():
     lines = [
         "# Thornmoor: a district of twelve villages, as large as an image may be, over a week.",
         "#",
-        f"# Made by thornmoor.py from the seed {SEED!r}. Loads are given for the first hours only; from then on the flows",
-        "# stand as they were, except where a control sets its link's flow back to the initial one.",
+        f"# Made by stock/thornmoor.py from the seed {SEED!r}. Loads come in the first hours only; from then on the",
+        "# flows stand as they were, except where a control sets its link's flow back to the initial one.",
         "",
         "options duration=168:00:00 hydraulic=0:10:00 report=1:00:00 pattern_timestep=1:00:00"
         " start_clock=0:00:00 default_pattern=WEEK-01 demand_multiplier=1.05",
