@@ -6,9 +6,10 @@
 Out of the seeds' lists of calls and damaged images and out of the sweep, the smallest first, it keeps each that reaches
 something which fewer than --times of those kept before it reach, and a large one only for what none of them reaches;
 coverage.py names what there is. A list of calls is cut behind the last call that it was kept for, but not to fewer than
---least-calls; on a project with the largest tables it is one call of each sort. data/case000, data/case001, .. are the
-inputs; stdout has for each a line with its name and then the answer, and ends with the number of cases. Where something
-is not reached it is named, and the end is code 1; what coverage.py counts of `driver` is not asked for.
+--least-calls; on a project with the largest tables it is one call of each sort. In front stand inputs whose count is
+wrong. data/case000, data/case001, .. are the inputs; stdout has for each a line with its name and then the answer, and
+ends with the number of cases. Where something is not reached it is named, and the end is code 1; what coverage.py
+counts of `driver` is not asked for.
 """
 
 import argparse
@@ -20,7 +21,7 @@ from pathlib import Path
 
 import generate
 from coverage import count_case, expected
-from image import MOST_LINKS, PATTERNS_CALL, REPLAY, STEP_CALL, Replay
+from image import MOST_LINKS, MOST_WORDS, PATTERNS_CALL, REPLAY, STEP_CALL, Options, Replay, to_bytes
 from programs import Program
 from run import chunks
 
@@ -42,8 +43,9 @@ def main():
     oracle = Program(arguments.oracle)
     found = candidates(oracle, arguments.seed, arguments.count)
     kept, reached = chosen(oracle, found, arguments.times, arguments.least_calls)
-    write(Path(arguments.out), oracle, kept)
-    print(f"{len(kept)} cases in {arguments.out}, which reach {len(reached)} things")
+    inputs = miscounted() + [case.input() for case in kept]
+    write(Path(arguments.out), inputs, oracle.answers([(REPLAY, data) for data in inputs]))
+    print(f"{len(inputs)} cases in {arguments.out}, which reach {len(reached)} things")
     missing = [name for name in expected() if not name.startswith("driver") and not reached[name]]
     if missing:
         sys.exit("not reached:\n" + "\n".join(missing))
@@ -58,6 +60,14 @@ def parse_arguments():
     parser.add_argument("--times", type=int, default=3)
     parser.add_argument("--least-calls", type=int, default=8)
     return parser.parse_args()
+
+
+def miscounted():
+    """Inputs with no count, half a count, and a count of none, of too many and of more words than there are."""
+    image = Options().words()
+    whole = to_bytes([len(image)] + image)
+    counts = (0, len(image) + 1, MOST_WORDS, MOST_WORDS + 1, 1 << 31, (1 << 32) - 1)
+    return [b"", whole[:3], whole[:4], whole[:-1]] + [to_bytes([count] + image) for count in counts]
 
 
 def candidates(oracle, seed, count):
@@ -123,16 +133,16 @@ def cut(oracle, kind, case, wanted, least_calls):
     return Replay(case.project, case.calls[:low])
 
 
-def write(folder, oracle, kept):
+def write(folder, inputs, answers):
     data = folder / "data"
     shutil.rmtree(data, ignore_errors=True)
     data.mkdir(parents=True)
     output = b""
-    for number, case in enumerate(kept):
+    for number, (case, answer) in enumerate(zip(inputs, answers)):
         name = f"case{number:03}"
-        (data / name).write_bytes(case.input())
-        output += name.encode() + b"\n" + oracle.answer(REPLAY, case.input())
-    (folder / "stdout").write_bytes(output + b"%d cases\n" % len(kept))
+        (data / name).write_bytes(case)
+        output += name.encode() + b"\n" + answer
+    (folder / "stdout").write_bytes(output + b"%d cases\n" % len(inputs))
 
 
 if __name__ == "__main__":
