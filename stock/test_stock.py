@@ -154,7 +154,7 @@ class Command(unittest.TestCase):
         self.assertEqual([line.split()[0] for line in lines], sorted(item.name for item in make.STOCK))
 
     def test_errors(self):
-        for arguments in (["nosuch"], ["coldash", "blank"], ["--wrong"]):
+        for arguments in (["nosuch"], ["coldash", "blank"], ["--wrong"], ["a root/stock/coldash.txt"]):
             done = self.run_it(*arguments)
             self.assertEqual((done.returncode, done.stdout), (2, ""), arguments)
             self.assertTrue(done.stderr, arguments)
