@@ -26,9 +26,9 @@ use Rattle.tables.specs.Tables.{Few, multiplierOk, multipliersOk, patternOk, pa
 use Rattle.tables.proofs.Tests.{and-grow}
 use Rattle.tables.proofs.Grown.{node-indices-grow, link-indices-grow, control-indices-grow, premise-indices-grow, all-below-grows, all-below-set, pattern-kept}
 use Rattle.entries.specs.Words.{number}
-use Rattle.entries.specs.Entries as payloads
 use Rattle.entries.specs.declared.entry.Entry.{Entry}
 use Rattle.entries.specs.declared.entry.Entry.the-variants as entries
+use Rattle.pattern_entries.specs.Entries as payloads
 use Rattle.image.specs.Placed.{multiplierPlaced, multipliersPlaced, placed}
 use Rattle.image.specs.Image.{faultOf}
 use Rattle.image.proofs.Records.{Taken}
