@@ -1,5 +1,5 @@
 -- Document 01, "The project image": what a control's payload says, and "Numbers by the place of the check": the first of 4, 5 and 6 that it breaks.
--- The tests of what it says are those of the tables (records/specs); those that only the words can break stand here.
+-- The tests of what it says are those of the tables (control_records/specs); those that only the words can break stand here.
 use Prim.Native.Nat.{ℕ, _/_, _%_}
 use mathlib.Core.Bool.{Bool, _&&_, _||_, cond}
 use mathlib.Core.List.{List}
@@ -13,7 +13,7 @@ use Rattle.model.specs.declared.control.SettingAction.the-variants.{KeepSetting
 use Rattle.model.specs.declared.control.StatusAction.{StatusAction}
 use Rattle.model.specs.declared.control.StatusAction.the-variants.{KeepStatus, SetStatus}
 use Rattle.model.specs.declared.project.Counts.{Counts}
-use Rattle.records.specs.Records.{controlOk, controlIndicesOk}
+use Rattle.control_records.specs.Records.{controlOk, controlIndicesOk}
 use Rattle.entries.specs.Words.{word, number}
 use Rattle.entries.specs.Entries.{passed}
 use Rattle.entries.specs.declared.entry.Entry.{Entry}

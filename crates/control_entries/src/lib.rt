@@ -1,6 +1,8 @@
 // What the payload of a control says (kind 7), and the first of numbers 4, 5 and 6 that it breaks.
 ghost use mathlib.Core.Path.{_≡_};
 ghost use Rattle.control_entries.specs.Entries.{conditionOf, statusActionOf, settingActionOf, controlAt, controlWordsOk, controlEntry};
+use control_records::control_indices_ok;
+use control_records::control_ok;
 use entries::Entry;
 use entries::number;
 use entries::passed;
@@ -10,8 +12,6 @@ use model::ControlCondition;
 use model::Counts;
 use model::SettingAction;
 use model::StatusAction;
-use records::control_indices_ok;
-use records::control_ok;
 
 // The condition of a code, with its node or seconds and its target.
 fn condition_of(code: u32, n: u32, target: f64) -> ControlCondition

@@ -12,7 +12,11 @@ use lib.ListN.{length, take, drop, getD, length-drop}
 use lib.Seq.{length-take-le}
 use Rattle.model.specs.declared.project.Counts.{Counts}
 use Rattle.model.proofs.Loops.{both-left, both-right}
-use Rattle.records.specs.Records.{optionsOk, nodeOk, nodeIndicesOk, linkOk, linkIndicesOk, controlOk, controlIndicesOk, premiseOk, premiseIndicesOk}
+use Rattle.records.specs.Records.{optionsOk}
+use Rattle.node_records.specs.Records.{nodeOk, nodeIndicesOk}
+use Rattle.link_records.specs.Records.{linkOk, linkIndicesOk}
+use Rattle.control_records.specs.Records.{controlOk, controlIndicesOk}
+use Rattle.premise_records.specs.Records.{premiseOk, premiseIndicesOk}
 use Rattle.entries.specs.Entries.{passed}
 use Rattle.entries.specs.declared.entry.Entry.{Entry}
 use Rattle.entries.specs.declared.entry.Entry.the-variants as entries

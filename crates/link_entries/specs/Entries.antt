@@ -1,5 +1,5 @@
 -- Document 01, "The project image": what a link's payload says, and "Numbers by the place of the check": the first of 4, 5 and 6 that it breaks.
--- The tests of what it says are those of the tables (records/specs); those that only the words can break stand here.
+-- The tests of what it says are those of the tables (link_records/specs); those that only the words can break stand here.
 use Prim.Native.Nat.{ℕ}
 use mathlib.Core.Bool.{Bool, _&&_, _||_, cond}
 use mathlib.Core.List.{List}
@@ -9,7 +9,7 @@ use Rattle.model.specs.declared.link.Link.{Link}
 use Rattle.model.specs.declared.link.LinkType.{LinkType}
 use Rattle.model.specs.declared.link.LinkType.the-variants.{Pipe, Pump, Valve}
 use Rattle.model.specs.declared.project.Counts.{Counts}
-use Rattle.records.specs.Records.{linkOk, linkIndicesOk}
+use Rattle.link_records.specs.Records.{linkOk, linkIndicesOk}
 use Rattle.entries.specs.Words.{word, number}
 use Rattle.entries.specs.Entries.{passed}
 use Rattle.entries.specs.declared.entry.Entry.{Entry}

@@ -5,11 +5,11 @@ use entries::Entry;
 use entries::number;
 use entries::passed;
 use entries::word;
+use link_records::link_indices_ok;
+use link_records::link_ok;
 use model::Counts;
 use model::Link;
 use model::LinkType;
-use records::link_indices_ok;
-use records::link_ok;
 
 fn link_type_of(sort: u32, size: f64, setting: f64) -> LinkType
     ensures { λ r. ⌜ r ≡ linkTypeOf sort size setting ⌝ }

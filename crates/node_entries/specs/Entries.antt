@@ -1,5 +1,5 @@
 -- Document 01, "The project image": what the payload of each kind of node says, and "Numbers by the place of the check": the first of 4, 5 and 6 that it breaks.
--- The tests of what it says are those of the tables (records/specs); those that only the words can break stand here.
+-- The tests of what it says are those of the tables (node_records/specs); those that only the words can break stand here.
 use Prim.Native.Nat.{ℕ, _+_}
 use mathlib.Core.Bool.{Bool, true, _&&_, cond}
 use mathlib.Core.List.{List}
@@ -14,7 +14,7 @@ use Rattle.model.specs.declared.node.Node.{Node}
 use Rattle.model.specs.declared.node.NodeType.the-variants.{Reservoir, Tank, Junction}
 use Rattle.model.specs.declared.node.Reservoir as reservoirs
 use Rattle.model.specs.declared.project.Counts.{Counts}
-use Rattle.records.specs.Records.{nodeOk, nodeIndicesOk}
+use Rattle.node_records.specs.Records.{nodeOk, nodeIndicesOk}
 use Rattle.entries.specs.Words.{word, number, patternIndexOf}
 use Rattle.entries.specs.Entries.{passed}
 use Rattle.entries.specs.declared.entry.Entry.{Entry}

@@ -14,8 +14,8 @@ use model::Junction;
 use model::Node;
 use model::NodeType;
 use model::Reservoir;
-use records::node_indices_ok;
-use records::node_ok;
+use node_records::node_indices_ok;
+use node_records::node_ok;
 use tank::Feet;
 use tank::Tank;
 

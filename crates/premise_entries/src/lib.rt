@@ -15,8 +15,8 @@ use model::SystemAttribute;
 use model::TankAttribute;
 use number::ComparisonOperator;
 use number::from_words;
-use records::premise_indices_ok;
-use records::premise_ok;
+use premise_records::premise_indices_ok;
+use premise_records::premise_ok;
 
 fn operator_of(code: u32) -> RuleConditionOperator
     ensures { λ r. ⌜ r ≡ operatorOf code ⌝ }
