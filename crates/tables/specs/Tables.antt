@@ -1,5 +1,5 @@
--- Document 01, number 10: "tables break 4 to 6". The tests are the decoder's own (records/specs), of every entry below the counts; "entries past
--- the counts are not judged".
+-- Document 01, number 10: "tables break 4 to 6". The tests are the decoder's own (`records` and the crates of each kind's records), of every entry
+-- below the counts; "entries past the counts are not judged".
 use Prim.Native.Nat.{ℕ, _+_, _*_, _≤_}
 use mathlib.Core.Bool.{Bool, _&&_}
 use mathlib.Core.List.{List}
