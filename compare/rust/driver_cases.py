@@ -1,0 +1,149 @@
+#!/usr/bin/env python3
+"""The inputs of the program `driver_cases`, and what the oracle answers to them.
+
+    driver_cases.py --oracle PATH --out FOLDER
+
+It writes FOLDER/data/case000, case001, .. and FOLDER/stdout: each case's name, the oracle's answer to it as `driver`,
+and the count of cases. The cases are those below, each for a sentence of document 01, then some of the seeds', and last
+the works of the stock by their names; what the oracle answers to these is held to the stock's listings.
+"""
+
+import argparse
+from pathlib import Path
+
+import generate
+import limits
+from damage import spoilt_load
+from image import *
+from instants import one_tank, tank_t
+from programs import Program
+from values import Chance
+
+SEEDS = range(1, 61)
+MOST_BYTES = 6_000
+STOCK = Path(__file__).resolve().parents[2] / "stock"
+
+
+class Raw:
+    """Bytes that are the input as they are."""
+
+    mode = DRIVER
+
+    def __init__(self, data):
+        self.data = data
+
+    def input(self):
+        return self.data
+
+
+def worked_example():
+    options = Options(duration=10_000, hydraulic=5_000, report=7_200, pattern=3_600)
+    return Project(options, nodes=[tank_t(10.0)])
+
+
+def fed_tank(duration=10_000, **options):
+    project = one_tank(10.0)
+    project.options = Options(duration=duration, **{**dict(report=7_200, pattern=3_600), **options})
+    return project
+
+
+def fast_path():
+    return Project(Options(duration=10_000, report=7_200, flags=SKIP), nodes=[Reservoir(10.0)])
+
+
+def largest():
+    """The longest load there is: 384 flows and 256 heads."""
+    nodes = [Junction(elevation=float(node)) for node in range(MOST_NODES)]
+    links = [Link(link % MOST_NODES, (link + 1) % MOST_NODES) for link in range(MOST_LINKS)]
+    return Project(Options(duration=60, report=5, pattern=7), nodes=nodes, links=links)
+
+
+def counts():
+    """"A count of 0 or over 16,384, or fewer bytes than it needs, is number 1"."""
+    whole = Drive(worked_example(), []).input()
+    yield from (Raw(whole[:size]) for size in (0, 1, 2, 3, 4, 5, len(whole) - 4, len(whole) - 1))
+    yield from (Raw(to_bytes([count]) + whole[4:]) for count in (0, 16_385, 0xFFFFFFFF))
+
+
+def images():
+    """"A fault prints the line `refused N` and ends: alone for an image"."""
+    yield Drive(worked_example(), [])
+    for position, bit in ((0, 0), (0, 20), (0, 28), (7, 2), (11, 0), (11, 31), (22, 1)):
+        words = worked_example().words()
+        words[position] ^= 1 << bit
+        yield Image(words, mode=DRIVER)
+    yield from (generate.driven_image(image) for image in limits.sweep()[::400])
+
+
+def loads():
+    """"takes one load if any is left", "a load cut by the end of the input is 7", "Loads left over are not read"."""
+    good = [Load([flow], []) for flow in (1.0, 2.0, -1.0, 0.5)]
+    size = 4 * len(good[0].words())
+    for count in range(5):
+        yield Drive(fed_tank(), good[:count])
+    for cut in (1, 2, 3, 4, size - 1):
+        yield Raw(Drive(fed_tank(), good[:2]).input()[:-cut])
+    for tail in (b"\1", b"\1\2", b"\1\2\3"):
+        yield Drive(fed_tank(), [], tail)
+        yield Drive(fed_tank(), good[:2], tail)
+    for change in (1 << 28, 1 << 16, 2, 1):
+        yield Drive(fed_tank(), good[:1] + [Load([1.0], [], header_change=change)] + good)
+    for number in (1e12, -1e12, 1.000000001e12, Bits(0x7FF8000000000001), Bits(0xFFF0000000000000)):
+        yield Drive(fed_tank(), good[:2] + [Load([number], [])] + good)
+    yield Drive(fed_tank(), [Load([2e12], [], length_change=1)])
+    # At the duration no more is read, whatever it is.
+    yield Drive(fed_tank(), good * 40)
+    yield Drive(fast_path(), [Load([], [])] * 2, b"\1\2\3")
+    yield Drive(fast_path(), [Load([], [])] * 3)
+    yield Drive(fast_path(), [])
+    yield Drive(fed_tank(0), [])
+    yield Drive(fed_tank(0), good, b"\1")
+    # Closing makes up for the demand that patterns set to 0 where no load is left.
+    yield Drive(fed_tank(hydraulic=100, report=LONGEST_TIME), good[:1])
+
+
+def long_ones():
+    """More output, and more input, than one buffer holds."""
+    yield Drive(fed_tank(10_000, report=1), [])
+    flows, heads = [0.25] * MOST_LINKS, [100.0] * MOST_NODES
+    yield Drive(largest(), [Load(flows, heads)] * 14, b"\1\2")
+    yield Drive(largest(), [Load(flows, heads)] * 5 + [spoilt_load(Chance("long"), Load(flows, heads))])
+
+
+def seeded():
+    return (case for case in map(generate.drive_case, SEEDS) if len(case.input()) <= MOST_BYTES)
+
+
+def stock():
+    return [Raw(image.read_bytes()) for image in sorted(STOCK.glob("*.image"))]
+
+
+def check_stock(answers):
+    for image, answer in zip(sorted(STOCK.glob("*.image")), answers):
+        if image.with_suffix(".listing").read_bytes() != answer:
+            raise SystemExit(f"{image.name}: the oracle's answer is not the listing")
+
+
+def main():
+    parser = argparse.ArgumentParser(description=__doc__, formatter_class=argparse.RawDescriptionHelpFormatter)
+    parser.add_argument("--oracle", required=True)
+    parser.add_argument("--out", required=True)
+    arguments = parser.parse_args()
+    data = Path(arguments.out) / "data"
+    data.mkdir(parents=True, exist_ok=True)
+    for old in data.glob("case*"):
+        old.unlink()
+    inputs = [case.input() for part in (counts, images, loads, long_ones, seeded, stock) for case in part()]
+    answers = Program(arguments.oracle).answers([(DRIVER, given) for given in inputs])
+    check_stock(answers[-len(stock()):])
+    expected = b""
+    for number, (given, answer) in enumerate(zip(inputs, answers)):
+        name = f"case{number:03}"
+        (data / name).write_bytes(given)
+        expected += name.encode() + b"\n" + answer
+    (Path(arguments.out) / "stdout").write_bytes(expected + b"%d cases\n" % len(inputs))
+    print(f"{len(inputs)} cases in {data}")
+
+
+if __name__ == "__main__":
+    main()

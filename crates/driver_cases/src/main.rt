@@ -1,0 +1,40 @@
+// Runs the driver on each of the files case000, case001, .. of the folder that it is run in, and prints a line with the name of each before its
+// listing. `compare/rust/driver_cases.py` makes the files, the works of the stock among them, and has the Rust say what is to be printed.
+use libc::STDOUT_FILENO;
+
+// Runs case i, and answers whether there is one.
+fn run_case(i: u32, input: &mut [u8; 65536], out: &mut [u8; 65536]) -> bool {
+    let mut name = [b'c', b'a', b's', b'e', 48, 48, 48];
+    name[4] = (48 + i / 100 % 10) as u8;
+    name[5] = (48 + i / 10 % 10) as u8;
+    name[6] = (48 + i % 10) as u8;
+    let fd = os::open_read(&name);
+    if fd < 0 {
+        return false;
+    }
+    io::write_all(STDOUT_FILENO, &name);
+    io::write_all(STDOUT_FILENO, b"\n");
+    drive::drive(input, out, fd, STDOUT_FILENO);
+    libc::close(fd);
+    true
+}
+
+// Runs the cases up to the first number that has none, and answers how many they are.
+fn run_all(input: &mut [u8; 65536], out: &mut [u8; 65536]) -> u32 {
+    let mut i = 0;
+    while i < 1000 {
+        if !run_case(i, input, out) {
+            return i;
+        }
+        i += 1;
+    }
+    i
+}
+
+fn main() {
+    let mut input = io::large_buffer();
+    let mut out = io::large_buffer();
+    let n = run_all(&mut input, &mut out);
+    io::print_decimal(STDOUT_FILENO, n as u64);
+    io::write_all(STDOUT_FILENO, b" cases\n");
+}

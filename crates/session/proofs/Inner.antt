@@ -1,0 +1,53 @@
+-- On a state in order each public call is the function behind it, so that the loop may leave out the judgement. Assumes nothing.
+use mathlib.Core.Path.{_≡_, refl, ap, _∙_}
+use mathlib.Core.Bool.{Bool, true, cond}
+use mathlib.Core.List.{List}
+use Prim.Native.Nat.{ℕ}
+use lib.Dec.{eqb}
+use Rattle.model.specs.declared.project.Project.{Project}
+use Rattle.model.specs.declared.state.State.{State}
+use Rattle.tables.specs.Fit.{TablesFit}
+use Rattle.tables.proofs.Fits.{tables-fit}
+use Rattle.judge.specs.Judgement.{inOrder}
+use Rattle.state.specs.Patterns.{applyPatterns}
+use Rattle.state.specs.Controls.{applyControls}
+use Rattle.load.specs.Loads.{loadFault, takeLoad}
+use Rattle.solver.specs.Closing.{updateTankLinks}
+use Rattle.simulation.specs.Steps.{nextHydraulicTimestep}
+use Rattle.calls.specs.Calls.{gives, judged, patterns, controls, load, tankLinks, step}
+use Rattle.sound.proofs.Theorem.{tables-of, patterns-in-order, controls-in-order}
+use Rattle.session.specs.Turns.{prepared}
+
+module _ (p : Project) (s : State) (e : inOrder p s ≡ true) where
+  pub fit : TablesFit p
+  fit = tables-fit p (tables-of p s e)
+
+  pub patterns-inner : patterns p s .state ≡ applyPatterns p s
+  unfolding patterns judged
+  patterns-inner = rw e
+
+  pub controls-inner : controls p s .state ≡ applyControls p s
+  unfolding controls judged
+  controls-inner = rw e
+
+  pub load-inner : (words : List ℕ) → load p words s ≡ cond (eqb (loadFault p words) 0) (gives 0 (takeLoad p words s)) (gives (loadFault p words) s)
+  unfolding load judged
+  load-inner words = rw e
+
+  pub tank-links-inner : tankLinks p s .state ≡ updateTankLinks p s
+  unfolding tankLinks judged
+  tank-links-inner = rw e
+
+  pub step-length-inner : step p s .length ≡ nextHydraulicTimestep p s .length
+  unfolding step
+  step-length-inner = rw e
+
+  pub step-state-inner : step p s .state ≡ nextHydraulicTimestep p s .state
+  unfolding step
+  step-state-inner = rw e
+
+-- patterns, then controls
+pub prepared-inner : (p : Project) (s : State) → inOrder p s ≡ true → prepared p s ≡ applyControls p (applyPatterns p s)
+unfolding prepared
+prepared-inner p s e =
+    controls-inner p (patterns p s .state) (patterns-in-order p s e) ∙ ap (applyControls p) (patterns-inner p s e)

@@ -1,0 +1,24 @@
+-- `session::loads::load_words` meets its contract. Assumes nothing.
+use Prim.Native.Nat.{ℕ, _+_, _*_}
+use mathlib.Core.Path.{ap}
+use Rattle.session.specs.Turns.{loadWords}
+use borrow.Author.Needs.{needs}
+use native.Mathlib.Omega.{arith}
+use Rattle.session.proofs.loads.load_words.Statement.{statement}
+use Rattle.session.proofs.loads.load_words.Tie as tie
+
+value-count-requires : tie.Need-value-count-requires
+value-count-requires c κs = search needs
+
+mul-result : tie.Need-mul-result
+mul-result c = search needs
+
+add-result : tie.Need-add-result
+add-result c = search needs
+
+returns : tie.Need-returns
+unfolding loadWords
+returns c = (ap (λ (n : ℕ). 1 + 2 * n) (c .value-count .ensures .0), omega (arith, c .value-count .ensures .1))
+
+pub load-words-spec : {M : Type 1} → statement M
+load-words-spec = tie.close (tie.spec value-count-requires mul-result add-result returns)
