@@ -41,7 +41,7 @@ def main():
     programs = {"driver": [arguments.driver], "plain": [str(build())], "oracle": [arguments.oracle, "driver"]}
     images = {name: (STOCK / f"{name}.image").read_bytes() for name in WORKS}
     images[f"{LARGEST}, {arguments.years} years"] = long_run(arguments.years)
-    print("| Works | Steps | Program | Wall, ms | Processor, ms | Wall a step, µs | Instructions | a step | to plain's |")
+    print("| Works | Steps | Program | Wall, ms | Processor, ms | a step, µs | Instructions | a step | to plain's |")
     print("|---|---|---|---|---|---|---|---|---|")
     for name, image in images.items():
         steps = steps_of(programs, image)
@@ -122,11 +122,12 @@ def instructions(command, path, folder):
 
 
 def row(works, steps, program, one, plain):
-    counts = "| | |"
+    cells = [works, f"{steps:,}", program]
+    cells += [f"{1e3 * one.wall:.1f}", f"{1e3 * one.processor:.1f}", f"{1e6 * one.processor / steps:.2f}"]
     if one.instructions:
-        counts = f"{one.instructions:,} | {one.instructions / steps:,.0f} | {one.instructions / plain.instructions:.2f} |"
-    times = f"{1e3 * one.wall:.1f} | {1e3 * one.processor:.1f} | {1e6 * one.wall / steps:.2f}"
-    return f"| {works} | {steps:,} | {program} | {times} | {counts}"
+        ratio = one.instructions / plain.instructions
+        cells += [f"{one.instructions:,}", f"{one.instructions / steps:,.0f}", f"{ratio:.1f}"]
+    return f"| {' | '.join(cells)} |"
 
 
 if __name__ == "__main__":
