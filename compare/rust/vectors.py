@@ -26,6 +26,7 @@ from programs import Program
 from run import chunks
 
 KINDS = ["sweep", "image", "replay"]
+OTHER_KINDS = ("driver", "edge", "strain")
 LARGE = 20_000  # bytes of input and answer
 CALL_CODES = range(PATTERNS_CALL, STEP_CALL + 1)
 
@@ -46,7 +47,7 @@ def main():
     inputs = miscounted() + [case.input() for case in kept]
     write(Path(arguments.out), inputs, oracle.answers([(REPLAY, data) for data in inputs]))
     print(f"{len(inputs)} cases in {arguments.out}, which reach {len(reached)} things")
-    missing = [name for name in expected() if not name.startswith("driver") and not reached[name]]
+    missing = [name for name in expected() if not name.startswith(OTHER_KINDS) and not reached[name]]
     if missing:
         sys.exit("not reached:\n" + "\n".join(missing))
 
