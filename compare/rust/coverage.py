@@ -16,7 +16,7 @@ import generate
 from image import *
 from programs import Program
 from run import chunks
-from steps import NEVER, causes, control_time, tank_time
+from steps import NEVER, Levels, causes, control_time, tank_time
 from values import H_TOL, L_TOL, volume
 
 PRESSURE_CONDITIONS = (HIGH_PRESSURE, LOW_PRESSURE)
@@ -51,11 +51,15 @@ def count_case(counts, kind, case, answer):
     lines = text.split("\n")[:-1]
     if kind in ("image", "sweep"):
         counts[f"{kind}: {lines[0] if lines[0].startswith('refused') else 'accepted'}"] += 1
+    elif kind == "strain":
+        count_strain(counts, case)
     elif kind == "driver":
         counts[f"driver: {'steps' if lines[-1].startswith('steps') else lines[-1]}"] += 1
         counts["driver: steps in all"] += max(len(lines) - 2, 0)
     else:
         count_replay(counts, case, lines)
+        if kind == "edge":
+            count_edges(counts, case, lines)
 
 
 def count_replay(counts, case, lines):
@@ -74,6 +78,30 @@ def count_replay(counts, case, lines):
         if call.code in COUNTERS:
             COUNTERS[call.code](counts, project, call, answer, before, after)
         before = after
+
+
+def count_edges(counts, case, lines):
+    """The level controls that act although the level is short of the target, or past it, by the whole tolerance."""
+    for call, line in zip(case.calls, lines):
+        before = State(case.project, line)
+        for control in case.project.controls if call.code == CONTROLS_CALL else []:
+            if control.condition in LEVEL_CONDITIONS and is_active(case.project, before, control):
+                limit = -L_TOL if control.condition == HIGH_LEVEL else L_TOL
+                if excess(case.project, before, control) == limit:
+                    counts[f"edge: {CONDITIONS[control.condition]} acts on its limit"] += 1
+
+
+def count_strain(counts, case):
+    """Whether the first step would have another length if closing did not sum again, or summed in another order."""
+    tank, flows = case.project.nodes[0], case.loads[0].flows
+    into = [flow for link, flow in zip(case.project.links, flows) if link.end == 0]
+    out = [-flow for link, flow in zip(case.project.links, flows) if link.start == 0]
+    in_link_order = [flow if link.end == 0 else -flow for link, flow in zip(case.project.links, flows)]
+    levels = Levels(0, [tank.elevation + tank.initial], [sum(into + out)])
+    right = tank_time(case.project, levels, 0)
+    for order, inflows in (("in link order", in_link_order), ("with links out first", out + into)):
+        levels.demands = [sum(inflows)]
+        counts[f"strain: a sum {order} gives another time"] += tank_time(case.project, levels, 0) != right
 
 
 def count_project(counts, project):
@@ -292,6 +320,9 @@ def expected():
     yield from named("nodes", ["disabled junctions", "junctions of four demands"])
     yield from named("pumps", ["setting 0", "flow not a multiple of the setting"])
     yield from named("image", ["largest tables", "all its words used"])
+    yield from named("edge", (f"{condition} acts on its limit" for condition in CONDITIONS[HIGH_LEVEL:TIME]))
+    orders = ("in link order", "with links out first")
+    yield from named("strain", (f"a sum {order} gives another time" for order in orders))
 
 
 TRUTHS = ("true", "false")

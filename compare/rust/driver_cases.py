@@ -4,7 +4,8 @@
     driver_cases.py --oracle PATH --out FOLDER
 
 It writes FOLDER/data/case000, case001, .. and FOLDER/stdout: each case's name, the oracle's answer to it as `driver`,
-and the count of cases. The cases are those below, each for a sentence of document 01, and then some of the seeds'.
+and the count of cases. The cases are those below, each for a sentence of document 01, then some of the seeds', and last
+the works of the stock by their names; what the oracle answers to these is held to the stock's listings.
 """
 
 import argparse
@@ -20,6 +21,7 @@ from values import Chance
 
 SEEDS = range(1, 61)
 MOST_BYTES = 6_000
+STOCK = Path(__file__).resolve().parents[2] / "stock"
 
 
 class Raw:
@@ -112,6 +114,16 @@ def seeded():
     return (case for case in map(generate.drive_case, SEEDS) if len(case.input()) <= MOST_BYTES)
 
 
+def stock():
+    return [Raw(image.read_bytes()) for image in sorted(STOCK.glob("*.image"))]
+
+
+def check_stock(answers):
+    for image, answer in zip(sorted(STOCK.glob("*.image")), answers):
+        if image.with_suffix(".listing").read_bytes() != answer:
+            raise SystemExit(f"{image.name}: the oracle's answer is not the listing")
+
+
 def main():
     parser = argparse.ArgumentParser(description=__doc__, formatter_class=argparse.RawDescriptionHelpFormatter)
     parser.add_argument("--oracle", required=True)
@@ -121,8 +133,9 @@ def main():
     data.mkdir(parents=True, exist_ok=True)
     for old in data.glob("case*"):
         old.unlink()
-    inputs = [case.input() for part in (counts, images, loads, long_ones, seeded) for case in part()]
+    inputs = [case.input() for part in (counts, images, loads, long_ones, seeded, stock) for case in part()]
     answers = Program(arguments.oracle).answers([(DRIVER, given) for given in inputs])
+    check_stock(answers[-len(stock()):])
     expected = b""
     for number, (given, answer) in enumerate(zip(inputs, answers)):
         name = f"case{number:03}"

@@ -1,7 +1,8 @@
 #!/usr/bin/env python3
 """Random projects, lists of calls, driver inputs and damaged images, each fixed by its seed.
 
-    generate.py --replay SEED | --driver SEED | --image SEED | --sweep NUMBER [--out FILE] [--text]
+    generate.py --replay SEED | --edge SEED | --driver SEED | --strain SEED | --image SEED | --sweep NUMBER
+                [--out FILE] [--text]
 
 A sweep's images are not random: they try each field's limits, each header and each table's end one by one.
 """
@@ -41,6 +42,51 @@ def drive_case(seed):
         loads.append(damage.spoilt_load(chance, chance.choice(moments).load))
     tail = bytes(chance.choice((1, 2, 3))) if chance.one_in(8) else b""
     return Drive(project, loads, tail)
+
+
+def edge_case(seed):
+    """Calls on tanks that stay empty at level 0: no other level misses a target by a tolerance to the last bit."""
+    chance = Chance(f"edge {seed}")
+    project = make_project(chance)
+    for index in project.tanks():
+        tank = project.nodes[index]
+        tank.least, tank.greatest, tank.initial = 0.0, max(tank.greatest, 0.0), 0.0
+    for control in project.controls:
+        if control.condition in (HIGH_LEVEL, LOW_LEVEL) and isinstance(project.nodes[control.subject], Tank):
+            control.target = beside(chance, L_TOL if control.condition == HIGH_LEVEL else -L_TOL)
+            set_action(chance, control, chance.choice((1, 2, 3)))
+    loads = [drained(chance, project, moment.load) for moment in make_moments(chance, project)]
+    return Replay(project, [call for load in loads for call in driver_cycle(chance, project, load)])
+
+
+def drained(chance, project, load):
+    """The load with nothing but outflow for most of the tanks."""
+    for tank in project.tanks() if not chance.one_in(4) else []:
+        for number, link in enumerate(project.links):
+            if tank in (link.start, link.end):
+                load.flows[number] = math.copysign(load.flows[number], -1.0 if link.end == tank else 1.0)
+    return load
+
+
+def strain_case(seed):
+    """A driver's run in which a great flow passes through the tank and little stays: the order of the sum shows."""
+    chance = Chance(f"strain {seed}")
+    tank = Tank(make_elevation(chance), initial=5.0, greatest=10.0, diameter=1.0)
+    ends = chance.sample(((1, 0), (2, 0), (0, 1), (0, 2)), 3)
+    links = [Link(start, end, status=OPEN) for start, end in ends]
+    loads = [strained(chance, tank, links) for _ in range(chance.randint(1, 4))]
+    options = Options(duration=3 * DAY, report=DAY, pattern=DAY, start_clock=chance.randrange(DAY))
+    return Drive(Project(options, [], [tank, Reservoir(50.0), Junction()], links), loads)
+
+
+def strained(chance, tank, links):
+    """The rest after the great flow is some hundred times its last place, and would move the tank in an hour or so."""
+    rest = chance.sign() * volume(tank, tank.initial) / chance.randint(600, 20_000)
+    great = min(abs(rest) * 2.0**52 / chance.uniform(50.0, 5000.0), MOST_LOADED)
+    inflows = [great, -great, rest]
+    chance.shuffle(inflows)
+    flows = [inflow if link.end == 0 else -inflow for inflow, link in zip(inflows, links)]
+    return Load(flows, [chance.uniform(0.0, 100.0)])
 
 
 def driven_image(image, longest=50):
@@ -252,11 +298,8 @@ def make_setting(chance):
 
 def make_control(chance, project):
     condition = chance.randrange(6)
-    control = Control(condition, 0, link=chance.randrange(len(project.links)), flags=chance.choice((0, 1, 1, 2, 2, 3)))
-    if control.flags & 1:
-        control.status = make_status(chance)
-    if control.flags & 2:
-        control.setting = make_setting(chance)
+    control = Control(condition, 0, link=chance.randrange(len(project.links)))
+    set_action(chance, control, chance.choice((0, 1, 1, 2, 2, 3)))
     if condition == TIME:
         control.subject = control_seconds(chance, project.options)
     elif condition == CLOCK_TIME:
@@ -265,6 +308,12 @@ def make_control(chance, project):
         control.subject = control_node(chance, project, condition)
         control.target = control_target(chance, project.nodes[control.subject], condition)
     return control
+
+
+def set_action(chance, control, flags):
+    control.flags = flags
+    control.status = make_status(chance) if flags & 1 else 0
+    control.setting = make_setting(chance) if flags & 2 else 0.0
 
 
 def control_seconds(chance, options):
@@ -545,7 +594,14 @@ def fill_up(project):
         room -= more
 
 
-CASES = {"replay": replay_case, "driver": drive_case, "image": image_case, "sweep": sweep_case}
+CASES = {
+    "replay": replay_case,
+    "edge": edge_case,
+    "driver": drive_case,
+    "strain": strain_case,
+    "image": image_case,
+    "sweep": sweep_case,
+}
 
 
 def text_of(case):

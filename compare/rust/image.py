@@ -61,6 +61,10 @@ def number_words(number):
     return [bits & 0xFFFFFFFF, bits >> 32]
 
 
+def numbers_words(numbers):
+    return [word for number in numbers for word in number_words(number)]
+
+
 def to_bytes(words):
     return struct.pack(f"<{len(words)}I", *words)
 
@@ -69,8 +73,20 @@ def record(kind, payload):
     return [kind << 28 | len(payload)] + payload
 
 
+class Record:
+    """A record whose fields stand in the payload's order: a float as a number, anything else as a word."""
+
+    def words(self):
+        return record(self.kind, [word for item in fields(self) for word in self.field_words(item)])
+
+    def field_words(self, item):
+        value = getattr(self, item.name)
+        return number_words(value) if item.type is float else [value]
+
+
 @dataclass
-class Options:
+class Options(Record):
+    kind = 1
     duration: int = 0
     hydraulic: int = 0
     report: int = 3600
@@ -81,40 +97,31 @@ class Options:
     default_pattern: int = 0
     multiplier: float = 1.0
 
-    def words(self):
-        times = [self.duration, self.hydraulic, self.report, self.pattern, self.pattern_start, self.start_clock]
-        return record(1, times + [self.flags, self.default_pattern] + number_words(self.multiplier))
-
 
 @dataclass
 class Pattern:
     multipliers: list
 
     def words(self):
-        return record(2, [word for multiplier in self.multipliers for word in number_words(multiplier)])
+        return record(2, numbers_words(self.multipliers))
 
 
 @dataclass
-class Reservoir:
+class Reservoir(Record):
+    kind = 3
     elevation: float = 0.0
     pattern: int = 0
 
-    def words(self):
-        return record(3, number_words(self.elevation) + [self.pattern])
-
 
 @dataclass
-class Tank:
+class Tank(Record):
+    kind = 4
     elevation: float = 0.0
     initial: float = 0.0
     least: float = 0.0
     greatest: float = 0.0
     diameter: float = 1.0
     overflow: int = 0
-
-    def words(self):
-        numbers = [self.elevation, self.initial, self.least, self.greatest, self.diameter]
-        return record(4, [word for number in numbers for word in number_words(number)] + [self.overflow])
 
 
 @dataclass
@@ -129,7 +136,8 @@ class Junction:
 
 
 @dataclass
-class Link:
+class Link(Record):
+    kind = 6
     start: int
     end: int
     sort: int = PIPE
@@ -137,13 +145,10 @@ class Link:
     size: float = 1.0  # a diameter, or a pump's initial flow
     setting: float = 0.0
 
-    def words(self):
-        codes = [self.start, self.end, self.sort, self.status]
-        return record(6, codes + number_words(self.size) + number_words(self.setting))
-
 
 @dataclass
-class Control:
+class Control(Record):
+    kind = 7
     condition: int
     subject: int  # a node or seconds
     target: float = 0.0
@@ -151,10 +156,6 @@ class Control:
     flags: int = 0
     status: int = 0
     setting: float = 0.0
-
-    def words(self):
-        condition = [self.condition, self.subject] + number_words(self.target)
-        return record(7, condition + [self.link, self.flags, self.status] + number_words(self.setting))
 
 
 @dataclass
@@ -185,7 +186,7 @@ class Load:
         return Load(list(self.flows), list(self.heads), self.header_change, self.length_change)
 
     def words(self):
-        words = record(LOAD_KIND, [word for number in self.flows + self.heads for word in number_words(number)])
+        words = record(LOAD_KIND, numbers_words(self.flows + self.heads))
         words[0] ^= self.header_change
         if self.length_change < 0:
             return words[: self.length_change]

@@ -1,64 +1,149 @@
 #!/usr/bin/env python3
-"""Stores inputs with the oracle's answers, for tests that run without the oracle.
+"""Stores inputs of `replay` with the oracle's answers, for a program that is run without the oracle.
 
-    vectors.py --oracle PATH --out FOLDER --count 2000 --times 3 --most-bytes 20000
+    vectors.py --oracle PATH --out ../../crates/replay_cases --seed 1 --count 4000 --times 3
 
-Out of the seeds' cases, and out of the sweep with --kinds sweep, it keeps those that reach something which fewer than
---times of the kept ones reach (coverage.py names what there is), small ones only. KIND-SEED.in is the input,
-KIND-SEED.out the answer.
+Out of the seeds' lists of calls and damaged images and out of the sweep, the smallest first, it keeps each that reaches
+something which fewer than --times of those kept before it reach, and a large one only for what none of them reaches;
+coverage.py names what there is. A list of calls is cut behind the last call that it was kept for, but not to fewer than
+--least-calls; on a project with the largest tables it is one call of each sort. In front stand inputs whose count is
+wrong. data/case000, data/case001, .. are the inputs; stdout has for each a line with its name and then the answer, and
+ends with the number of cases. Where something is not reached it is named, and the end is code 1; what coverage.py
+counts of `driver` is not asked for.
 """
 
 import argparse
+import shutil
+import sys
 from collections import Counter
+from dataclasses import dataclass
 from pathlib import Path
 
 import generate
-from coverage import count_case
+from coverage import count_case, expected
+from image import MOST_LINKS, MOST_WORDS, PATTERNS_CALL, REPLAY, STEP_CALL, Options, Replay, to_bytes
 from programs import Program
 from run import chunks
 
-KINDS = ["replay", "driver", "image"]
+KINDS = ["sweep", "image", "replay"]
+OTHER_KINDS = ("driver", "edge", "strain")
+LARGE = 20_000  # bytes of input and answer
+CALL_CODES = range(PATTERNS_CALL, STEP_CALL + 1)
+
+
+@dataclass
+class Candidate:
+    size: int  # of the input and the answer
+    kind: str
+    seed: int
+    names: frozenset  # what it reaches
 
 
 def main():
     arguments = parse_arguments()
     oracle = Program(arguments.oracle)
-    folder = Path(arguments.out)
-    folder.mkdir(parents=True, exist_ok=True)
-    reached = Counter()
-    stored = 0
-    for cases in chunks(arguments.kinds, arguments.seed, arguments.count):
-        answers = oracle.answers([(case.mode, case.input()) for _, _, case in cases])
-        for (kind, seed, case), answer in zip(cases, answers):
-            small = len(case.input()) + len(answer) <= arguments.most_bytes
-            if small and adds(reached, kind, case, answer, arguments.times):
-                (folder / f"{kind}-{seed}.in").write_bytes(case.input())
-                (folder / f"{kind}-{seed}.out").write_bytes(answer)
-                stored += 1
-    print(f"{stored} cases in {folder}, which reach {len(reached)} things")
+    found = candidates(oracle, arguments.seed, arguments.count)
+    kept, reached = chosen(oracle, found, arguments.times, arguments.least_calls)
+    inputs = miscounted() + [case.input() for case in kept]
+    write(Path(arguments.out), inputs, oracle.answers([(REPLAY, data) for data in inputs]))
+    print(f"{len(inputs)} cases in {arguments.out}, which reach {len(reached)} things")
+    missing = [name for name in expected() if not name.startswith(OTHER_KINDS) and not reached[name]]
+    if missing:
+        sys.exit("not reached:\n" + "\n".join(missing))
 
 
 def parse_arguments():
     parser = argparse.ArgumentParser(description=__doc__, formatter_class=argparse.RawDescriptionHelpFormatter)
     parser.add_argument("--oracle", required=True)
-    parser.add_argument("--out", required=True)
+    parser.add_argument("--out", required=True, help="the crate's folder")
     parser.add_argument("--seed", type=int, default=1)
-    parser.add_argument("--count", type=int, default=2000)
+    parser.add_argument("--count", type=int, default=4000, help="how many seeds")
     parser.add_argument("--times", type=int, default=3)
-    parser.add_argument("--most-bytes", type=int, default=20_000)
-    parser.add_argument("--kinds", nargs="+", choices=generate.CASES, default=KINDS)
+    parser.add_argument("--least-calls", type=int, default=8)
     return parser.parse_args()
 
 
-def adds(reached, kind, case, answer, times):
-    """Whether the case reaches something that is still wanted; if so it is counted."""
+def miscounted():
+    """Inputs with no count, half a count, and a count of none, of too many and of more words than there are."""
+    image = Options().words()
+    whole = to_bytes([len(image)] + image)
+    counts = (0, len(image) + 1, MOST_WORDS, MOST_WORDS + 1, 1 << 31, (1 << 32) - 1)
+    return [b"", whole[:3], whole[:4], whole[:-1]] + [to_bytes([count] + image) for count in counts]
+
+
+def candidates(oracle, seed, count):
+    """Every case with what it reaches, the smallest first. The cases themselves are many, and are made again."""
+    found = []
+    for cases in chunks(KINDS, seed, count):
+        answers = oracle.answers([(case.mode, case.input()) for _, _, case in cases])
+        for (kind, number, case), answer in zip(cases, answers):
+            if is_largest(case):
+                case = one_of_each(case)
+                answer = oracle.answer(REPLAY, case.input())
+            if not is_largest(case) or len(case.calls) == len(CALL_CODES):
+                size = len(case.input()) + len(answer)
+                found.append(Candidate(size, kind, number, frozenset(names_of(kind, case, answer))))
+    return sorted(found, key=lambda candidate: (candidate.size, candidate.kind, candidate.seed))
+
+
+def is_largest(case):
+    return isinstance(case, Replay) and len(case.project.links) == MOST_LINKS
+
+
+def one_of_each(case):
+    """The first call of each sort, in a driver's order. Every answer of a large project is long."""
+    firsts = [next((call for call in case.calls if call.code == code), None) for code in CALL_CODES]
+    return Replay(case.project, [call for call in firsts if call])
+
+
+def names_of(kind, case, answer):
     counts = Counter()
     count_case(counts, kind, case, answer)
-    names = [name for name, number in counts.items() if number]
-    if all(reached[name] >= times for name in names):
-        return False
-    reached.update(names)
-    return True
+    return {name for name, number in counts.items() if number}
+
+
+def chosen(oracle, found, times, least_calls):
+    """The cases that are kept, refused images and sweep before lists of calls, and how often each thing is reached."""
+    kept, reached = [], Counter()
+    for candidate in found:
+        enough = times if candidate.size <= LARGE else 1
+        wanted = {name for name in candidate.names if reached[name] < enough}
+        if wanted:
+            case = generate.CASES[candidate.kind](candidate.seed)
+            if is_largest(case):
+                case = one_of_each(case)
+            elif isinstance(case, Replay):
+                case = cut(oracle, candidate.kind, case, wanted, least_calls)
+            reached.update(names_of(candidate.kind, case, oracle.answer(REPLAY, case.input())))
+            kept.append((KINDS.index(candidate.kind), candidate.seed, case))
+    return [case for _, _, case in sorted(kept, key=lambda entry: entry[:2])], reached
+
+
+def cut(oracle, kind, case, wanted, least_calls):
+    """The case with the shortest beginning of its calls that reaches all that is wanted of it."""
+    lines = oracle.answer(REPLAY, case.input()).split(b"\n")
+
+    def reaches(count):
+        beginning = Replay(case.project, case.calls[:count])
+        return wanted <= names_of(kind, beginning, b"\n".join(lines[: count + 1]) + b"\n")
+
+    low, high = min(least_calls, len(case.calls)), len(case.calls)
+    while low < high:
+        middle = (low + high) // 2
+        low, high = (low, middle) if reaches(middle) else (middle + 1, high)
+    return Replay(case.project, case.calls[:low])
+
+
+def write(folder, inputs, answers):
+    data = folder / "data"
+    shutil.rmtree(data, ignore_errors=True)
+    data.mkdir(parents=True)
+    output = b""
+    for number, (case, answer) in enumerate(zip(inputs, answers)):
+        name = f"case{number:03}"
+        (data / name).write_bytes(case)
+        output += name.encode() + b"\n" + answer
+    (folder / "stdout").write_bytes(output + b"%d cases\n" % len(inputs))
 
 
 if __name__ == "__main__":

@@ -21,14 +21,18 @@ use Rattle.model.specs.declared.project.Project.{Project}
 use Rattle.model.specs.declared.rule.Premise.{Premise}
 use Rattle.model.proofs.Loops.{both-left, held-at}
 use Rattle.records.specs.Ranges.{numberOk}
-use Rattle.records.specs.Records.{optionsOk, nodeOk, linkOk, controlOk, premiseOk}
+use Rattle.records.specs.Records.{optionsOk}
+use Rattle.node_records.specs.Records.{nodeOk}
+use Rattle.link_records.specs.Records.{linkOk}
+use Rattle.control_records.specs.Records.{controlOk}
+use Rattle.premise_records.specs.Records.{premiseOk}
 use Rattle.tables.specs.Tables.{Few, multiplierOk, multipliersOk, patternOk, patternOkAt, patternsOk, nodeFits, nodeFitsAt, nodesOk, linkFits, linkFitsAt, linksOk, controlFits, controlFitsAt, controlsOk, premiseFits, premiseFitsAt, premisesOk}
 use Rattle.tables.proofs.Tests.{and-grow}
 use Rattle.tables.proofs.Grown.{node-indices-grow, link-indices-grow, control-indices-grow, premise-indices-grow, all-below-grows, all-below-set, pattern-kept}
 use Rattle.entries.specs.Words.{number}
-use Rattle.entries.specs.Entries as payloads
 use Rattle.entries.specs.declared.entry.Entry.{Entry}
 use Rattle.entries.specs.declared.entry.Entry.the-variants as entries
+use Rattle.pattern_entries.specs.Entries as payloads
 use Rattle.image.specs.Placed.{multiplierPlaced, multipliersPlaced, placed}
 use Rattle.image.specs.Image.{faultOf}
 use Rattle.image.proofs.Records.{Taken}

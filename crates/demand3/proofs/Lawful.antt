@@ -44,6 +44,7 @@ load-may p words = go (shapeOk (valueCount p) words) (valuesOk (valueCount p) wo
   where
     fault : Bool → Bool → ℕ
     fault a b = cond a (cond b 0 8) 7
+
     go : (a b : Bool) → (fault a b ≡ 0) ⊎ (fault a b ≡ 7) ⊎ (fault a b ≡ 8)
     go true true = inl refl
     go true false = inr (inr refl)

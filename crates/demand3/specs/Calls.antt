@@ -9,7 +9,7 @@ use Rattle.calls.specs.Calls as calls
 use Rattle.calls.specs.declared.Called.{Called}
 use Rattle.calls.specs.declared.PremiseAnswer.{PremiseAnswer}
 use Rattle.calls.specs.declared.PremiseAnswer.the-variants.{Truth, Refused}
-use Rattle.demand3.specs.declared.call.Outcome.{Outcome}
+use Rattle.demand3.specs.declared.outcome.Outcome.{Outcome}
 
 pub data Call : Type 0 where
   patterns : Call

@@ -1,5 +1,5 @@
 // Runs the driver on each of the files case000, case001, .. of the folder that it is run in, and prints a line with the name of each before its
-// listing. `compare/rust/driver_cases.py` makes the files, and has the Rust say what is to be printed.
+// listing. `compare/rust/driver_cases.py` makes the files, the works of the stock among them, and has the Rust say what is to be printed.
 use libc::STDOUT_FILENO;
 
 // Runs case i, and answers whether there is one.

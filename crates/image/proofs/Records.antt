@@ -12,11 +12,20 @@ use lib.ListN.{length, take, drop, getD, length-drop}
 use lib.Seq.{length-take-le}
 use Rattle.model.specs.declared.project.Counts.{Counts}
 use Rattle.model.proofs.Loops.{both-left, both-right}
-use Rattle.records.specs.Records.{optionsOk, nodeOk, nodeIndicesOk, linkOk, linkIndicesOk, controlOk, controlIndicesOk, premiseOk, premiseIndicesOk}
-use Rattle.entries.specs.Entries.{passed, multipliersOk, linkWordsOk, controlWordsOk, premiseWordsOk}
-use Rattle.entries.specs.Entries.{optionsEntry, patternEntry, nodeEntry, reservoirEntry, tankEntry, junctionEntry, linkEntry, controlEntry, premiseEntry}
+use Rattle.records.specs.Records.{optionsOk}
+use Rattle.node_records.specs.Records.{nodeOk, nodeIndicesOk}
+use Rattle.link_records.specs.Records.{linkOk, linkIndicesOk}
+use Rattle.control_records.specs.Records.{controlOk, controlIndicesOk}
+use Rattle.premise_records.specs.Records.{premiseOk, premiseIndicesOk}
+use Rattle.entries.specs.Entries.{passed}
 use Rattle.entries.specs.declared.entry.Entry.{Entry}
 use Rattle.entries.specs.declared.entry.Entry.the-variants as entries
+use Rattle.options_entries.specs.Entries.{optionsEntry}
+use Rattle.pattern_entries.specs.Entries.{multipliersOk, patternEntry}
+use Rattle.node_entries.specs.Entries.{nodeEntry, reservoirEntry, tankEntry, junctionEntry}
+use Rattle.link_entries.specs.Entries.{linkWordsOk, linkEntry}
+use Rattle.control_entries.specs.Entries.{controlWordsOk, controlEntry}
+use Rattle.premise_entries.specs.Entries.{premiseWordsOk, premiseEntry}
 use Rattle.image.specs.Placed.{Room}
 use Rattle.image.specs.Image.{kindOf, sizeOf, sizeOk, stageOk, headerOk, entryOf, payload, recordOf, faultOf}
 

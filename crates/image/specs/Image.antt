@@ -8,9 +8,14 @@ use Rattle.model.specs.Blank.{emptyProject}
 use Rattle.model.specs.declared.project.Counts.{Counts}
 use Rattle.model.specs.declared.project.Project.{Project}
 use Rattle.records.specs.Ranges.{patternIndexOk}
-use Rattle.entries.specs.Entries.{optionsEntry, patternEntry, reservoirEntry, tankEntry, junctionEntry, linkEntry, controlEntry, premiseEntry}
 use Rattle.entries.specs.declared.entry.Entry.{Entry}
 use Rattle.entries.specs.declared.entry.Entry.the-variants as entries
+use Rattle.options_entries.specs.Entries.{optionsEntry}
+use Rattle.pattern_entries.specs.Entries.{patternEntry}
+use Rattle.node_entries.specs.Entries.{reservoirEntry, tankEntry, junctionEntry}
+use Rattle.link_entries.specs.Entries.{linkEntry}
+use Rattle.control_entries.specs.Entries.{controlEntry}
+use Rattle.premise_entries.specs.Entries.{premiseEntry}
 use Rattle.image.specs.Placed.{placed}
 use Rattle.image.specs.declared.walk.Decoded.{Decoded}
 

@@ -1,8 +1,17 @@
 // A record's header, and its answer by kind.
 ghost use mathlib.Core.Path.{_≡_};
 ghost use Rattle.image.specs.Image.{stageOf, sizeOk, stageOk, headerOk, entryOf, recordOf, faultOf};
-use entries::*;
+use control_entries::control_entry;
+use entries::Entry;
+use entries::word;
+use link_entries::link_entry;
 use model::Counts;
+use node_entries::junction_entry;
+use node_entries::reservoir_entry;
+use node_entries::tank_entry;
+use options_entries::options_entry;
+use pattern_entries::pattern_entry;
+use premise_entries::premise_entry;
 
 pub fn stage_of(kind: u32) -> u32
     ensures { λ r. ⌜ r ≡ stageOf kind ⌝ }

@@ -37,3 +37,8 @@ values-all p {k} {i} e q = e ∙ ap (valuesBefore p) q
 pub values-small : {p : Project} → TablesFit p → valueCount p < 100000
 unfolding valueCount
 values-small {p} t = values-few t (p .counts .nodes) (omega arith)
+
+-- the longest load has 384 flows and 256 heads
+pub values-most-fit : {p : Project} → TablesFit p → valueCount p ≤ 640
+unfolding valueCount
+values-most-fit {p} t = omega (arith, values-most p (p .counts .nodes), t .few .links, t .few .nodes)

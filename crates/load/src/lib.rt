@@ -34,7 +34,7 @@ fn with_node(count: usize, n: Node) -> usize
 }
 
 // How many numbers a load has.
-fn value_count(p: Project) -> usize
+pub fn value_count(p: Project) -> usize
     requires { ⌜ TablesFit p ⌝ }
     ensures { λ r. ⌜ r ≡ valueCount p ⌝ }
 {

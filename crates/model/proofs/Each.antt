@@ -1,12 +1,12 @@
--- What stands at an index after a loop that changes a list from the front: below n what g makes of it, from n on what stood there.
--- Assumes nothing.
+-- What stands at an index after a loop that changes a list from the front: below n what g makes of it, from n on what stood there; and how long the list
+-- of an array of structs is. Assumes nothing.
 use Prim.Native.Nat.{ℕ, zero, suc, _≤_, _<_}
 use mathlib.Core.Path.{_≡_, refl, sym, _∙_, ap}
-use mathlib.Core.List.{List}
+use mathlib.Core.List.{List, map}
 use mathlib.Core.Logic.{⊎-elim}
 use native.Mathlib.Nat.{le-of-suc-le-suc, not-suc-le-zero, eq-or-lt-of-le}
 use native.Mathlib.Omega.{arith}
-use lib.ListN.{getD, set, length, length-set}
+use lib.ListN.{getD, set, length, length-map, length-set}
 use lib.Seq.{getD-set-same, getD-set-other}
 use Rattle.model.specs.Loops.{through}
 
@@ -39,3 +39,7 @@ module _ {A : Type 0} (g : ℕ → A → A) (d : A) (xs : List A) where
       (λ e. rw e (getD-set-same (so-far n) n (next n) d (rw (same-length n) (omega arith)) ∙ ap (g n) (from n n (omega arith))))
       (λ m. getD-set-other (so-far n) n k (next n) d (λ e. omega arith) ∙ below n k m (omega arith))
       (eq-or-lt-of-le (le-of-suc-le-suc h))
+
+-- what owning an array of structs tells is of their machine values: the list of the structs is as long
+pub mapped : {A B : Type 0} (f : A → B) (l : List A) (n : ℕ) → length (map f l) ≡ n → length l ≡ n
+mapped f l n e = omega (arith, length-map l f)

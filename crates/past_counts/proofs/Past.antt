@@ -94,8 +94,10 @@ moved-by-past p s length = go (eqb length 0)
   where
     u : State
     u = updateTanks p s length
+
     q : SamePast p s u
     q = update-tanks-past p s length
+
     go : (b : Bool) → SamePast p s (cond b s (record { nodes = u .nodes; links = u .links; clock = advanced (s .clock) length }))
     go true = same p s
     go false = record { node = q .node; link = q .link }

@@ -1,45 +1,15 @@
 // A load out of its bytes.
 ghost use mathlib.Core.Path.{_≡_};
-ghost use mathlib.Core.Bool.{true, cond};
-ghost use Prim.Native.Nat.{_+_, _≤_};
+ghost use mathlib.Core.Bool.{true};
+ghost use Prim.Native.Nat.{_≤_};
 ghost use lib.ListN.{length};
-ghost use Rattle.model.specs.Nodes.{isJunction};
 ghost use Rattle.tables.specs.Fit.{TablesFit};
 ghost use Rattle.judge.specs.Judgement.{inOrder};
-ghost use Rattle.load.specs.Loads.{valueCount};
 ghost use Rattle.calls.specs.Calls.{load};
 ghost use Rattle.words.specs.Words.{firstWords};
 ghost use Rattle.session.specs.Turns.{loadWords, loadBytes};
 use calls::Called;
 use model::*;
-
-// A count with one more for a junction.
-fn with_node(count: usize, n: Node) -> usize
-    requires { ⌜ count ≤ 640 ⌝ }
-    ensures { λ r. ⌜ r ≡ count + cond (isJunction n) 1 0 ⌝ }
-    ensures { λ r. ⌜ r ≤ count + 1 ⌝ }
-{
-    if n.is_junction() {
-        return count + 1;
-    }
-    count
-}
-
-// How many numbers a load has: every link's flow and every junction's head.
-fn value_count(p: Project) -> usize
-    requires { ⌜ TablesFit p ⌝ }
-    ensures { λ r. ⌜ r ≡ valueCount p ⌝ }
-    ensures { λ r. ⌜ r ≤ 640 ⌝ }
-{
-    let n = p.counts.nodes;
-    let mut k = p.counts.links;
-    let mut i = 0;
-    while i < n {
-        k = with_node(k, p.nodes[i]);
-        i += 1;
-    }
-    k
-}
 
 // How many words a load has.
 pub fn load_words(p: Project) -> usize
@@ -47,7 +17,7 @@ pub fn load_words(p: Project) -> usize
     ensures { λ r. ⌜ r ≡ loadWords p ⌝ }
     ensures { λ r. ⌜ r ≤ 1281 ⌝ }
 {
-    1 + 2 * value_count(p)
+    1 + 2 * load::value_count(p)
 }
 
 // Room for the words of a load.

@@ -2,34 +2,45 @@
 ghost use mathlib.Core.Path.{_≡_};
 ghost use Prim.Native.Nat.{_≤_};
 ghost use lib.ListN.{take, drop};
-ghost use Rattle.model.specs.Patterns.{multiplierAt};
+ghost use Rattle.model.specs.Patterns.{period};
+ghost use Rattle.pattern_view.specs.View.{multiplierInForce};
 ghost use Rattle.tables.specs.Fit.{TablesFit};
 ghost use Rattle.state.specs.Patterns.{tabled, tableOf, orDefault, demandOf, sumOf, junctionDemand, patternHead, patternDemand, patterned, applyPatterns};
 use model::*;
+use pattern_view::multiplier_in_force;
 
-// The multiplier at a period of the pattern whose multipliers begin at a place; none stand past the table's end.
-fn pattern_multiplier(multipliers: &[f64; 5376], from: usize, length: usize, period: u64) -> f64
+// The multiplier in force of the pattern whose multipliers begin at a place, by a view of them; none stand past the table's end.
+fn pattern_multiplier(
+    multipliers: &[f64; 5376],
+    from: usize,
+    length: usize,
+    start: u32,
+    timestep: u32,
+    time: u32,
+) -> f64
     requires { ⌜ from ≤ 5376 ⌝ }
-    ensures { λ r. ⌜ r ≡ multiplierAt (take length (drop from (now (multipliers .entry)))) period ⌝ }
+    ensures { λ r. ⌜ r ≡ multiplierInForce (take length (drop from (now (multipliers .entry)))) start timestep time ⌝ }
 {
     let all: &[f64] = multipliers;
     if 5376 - from <= length {
-        return multiplier_at(&all[from..], period);
+        return multiplier_in_force(&all[from..], start, timestep, time);
     }
     let to = from + length;
-    multiplier_at(&all[from..to], period)
+    multiplier_in_force(&all[from..to], start, timestep, time)
 }
 
-// The multiplier of each pattern at a period.
-pub fn period_table(p: Project, period: u64) -> [f64; 32]
-    ensures { λ r. ⌜ r ≡ tableOf p period ⌝ }
+// The multiplier of each pattern at an instant.
+pub fn period_table(p: Project, time: u32) -> [f64; 32]
+    ensures { λ r. ⌜ r ≡ tableOf p (period (p .options .«pattern_start») (p .options .pattern) time) ⌝ }
 {
     let mut t = [1.0; 32];
     let lengths = p.lengths;
+    let start = p.options.pattern_start;
+    let timestep = p.options.pattern;
     let mut k = 0;
     while k < 32 {
         let length = lengths[k];
-        t[k] = pattern_multiplier(&p.multipliers, k * 168, length, period);
+        t[k] = pattern_multiplier(&p.multipliers, k * 168, length, start, timestep, time);
         k += 1;
     }
     t
@@ -160,7 +171,7 @@ pub fn apply_patterns(p: Project, s: State) -> State
 {
     let mut st = s;
     let o = p.options;
-    let t = period_table(p, period(o.pattern_start, o.pattern, s.clock.instant));
+    let t = period_table(p, s.clock.instant);
     let n = p.counts.nodes;
     let mut i = 0;
     while i < n {

@@ -45,7 +45,11 @@ use Rattle.model.specs.declared.rule.RuleConditionTarget.{RuleConditionTarget}
 use Rattle.model.specs.declared.rule.RuleConditionTarget.the-variants as targets
 use Rattle.model.proofs.Loops.{held-at, both-left, both-right}
 use Rattle.records.specs.Ranges.{timeOk, timestepOk, clockOk, feetOk, diameterOk, numberOk, premiseNumberOk, statusOk, patternIndexOk}
-use Rattle.records.specs.Records.{optionsOk, tankOk, demandOk, demandsOk, nodeOk, demandIndexOk, demandsIndicesOk, nodeIndicesOk, linkTypeOk, linkOk, linkIndicesOk, conditionOk, statusActionOk, settingActionOk, controlOk, conditionIndexOk, controlIndicesOk, valueOk, premiseOk, premiseIndicesOk}
+use Rattle.records.specs.Records.{optionsOk}
+use Rattle.node_records.specs.Records.{tankOk, demandOk, demandsOk, nodeOk, demandIndexOk, demandsIndicesOk, nodeIndicesOk}
+use Rattle.link_records.specs.Records.{linkTypeOk, linkOk, linkIndicesOk}
+use Rattle.control_records.specs.Records.{conditionOk, statusActionOk, settingActionOk, controlOk, conditionIndexOk, controlIndicesOk}
+use Rattle.premise_records.specs.Records.{valueOk, premiseOk, premiseIndicesOk}
 use Rattle.tables.specs.Tables.{Few, countsOk, multiplierOk, multipliersOk, patternOk, patternOkAt, patternsOk, nodeFits, nodeFitsAt, nodesOk, linkFits, linkFitsAt, linksOk, controlFits, controlFitsAt, controlsOk, premiseFits, premiseFitsAt, premisesOk, tablesOk}
 use Rattle.tables.specs.Fit.{OptionsFit, PatternIndexFit, PatternFit, DemandFit, DemandsFit, NodeFit, LinkTypeFit, LinkFit, ConditionFit, StatusActionFit, SettingActionFit, ControlFit, TargetFit, ValueFit, PremiseFit, TablesFit}
 use Rattle.tables.proofs.Tests.{each}

@@ -25,7 +25,10 @@ use Rattle.model.specs.declared.pattern.PatternIndex.the-variants.{NoPattern, P
 use Rattle.model.specs.declared.rule.RuleConditionTarget.{RuleConditionTarget}
 use Rattle.model.specs.declared.rule.RuleConditionTarget.the-variants as targets
 use Rattle.records.specs.Ranges.{patternIndexOk}
-use Rattle.records.specs.Records.{demandIndexOk, demandsIndicesOk, nodeIndicesOk, linkIndicesOk, conditionIndexOk, controlIndicesOk, premiseIndicesOk}
+use Rattle.node_records.specs.Records.{demandIndexOk, demandsIndicesOk, nodeIndicesOk}
+use Rattle.link_records.specs.Records.{linkIndicesOk}
+use Rattle.control_records.specs.Records.{conditionIndexOk, controlIndicesOk}
+use Rattle.premise_records.specs.Records.{premiseIndicesOk}
 use Rattle.tables.specs.Tables.{multiplierOk, multipliersOk, patternOk}
 use Rattle.tables.proofs.Tests.{and-grow}
 

@@ -1,5 +1,5 @@
--- Document 01, number 10: "tables break 4 to 6". The tests are the decoder's own (records/specs), of every entry below the counts; "entries past
--- the counts are not judged".
+-- Document 01, number 10: "tables break 4 to 6". The tests are the decoder's own (`records` and the crates of each kind's records), of every entry
+-- below the counts; "entries past the counts are not judged".
 use Prim.Native.Nat.{ℕ, _+_, _*_, _≤_}
 use mathlib.Core.Bool.{Bool, _&&_}
 use mathlib.Core.List.{List}
@@ -15,7 +15,11 @@ use Rattle.model.specs.declared.project.Counts.{Counts}
 use Rattle.model.specs.declared.project.Project.{Project}
 use Rattle.model.specs.declared.rule.Premise.{Premise}
 use Rattle.records.specs.Ranges.{numberOk, patternIndexOk}
-use Rattle.records.specs.Records.{optionsOk, nodeOk, nodeIndicesOk, linkOk, linkIndicesOk, controlOk, controlIndicesOk, premiseOk, premiseIndicesOk}
+use Rattle.records.specs.Records.{optionsOk}
+use Rattle.node_records.specs.Records.{nodeOk, nodeIndicesOk}
+use Rattle.link_records.specs.Records.{linkOk, linkIndicesOk}
+use Rattle.control_records.specs.Records.{controlOk, controlIndicesOk}
+use Rattle.premise_records.specs.Records.{premiseOk, premiseIndicesOk}
 
 -- 4: "32 patterns, 256 nodes, 384 links, 64 controls, 128 premises"
 unfoldable pub countsOk : Counts → Bool

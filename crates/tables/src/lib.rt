@@ -3,7 +3,11 @@ ghost use mathlib.Core.Path.{_≡_};
 ghost use Prim.Native.Nat.{_<_, _≤_};
 ghost use lib.ListN.{getD};
 ghost use Rattle.tables.specs.Tables.{Few, countsOk, multipliersOk, patternOk, patternsOk, nodeFits, nodesOk, linkFits, linksOk, controlFits, controlsOk, premiseFits, premisesOk, tablesOk};
+use control_records::*;
+use link_records::*;
 use model::*;
+use node_records::*;
+use premise_records::*;
 use records::*;
 
 // The capacities of the tables.

@@ -1,17 +1,11 @@
 -- `load::take_load` meets its contract. The passes come to the definition, node by node. Assumes nothing.
-use Prim.Native.Nat.{ℕ}
 use mathlib.Core.Path.{_≡_}
-use mathlib.Core.List.{List, map}
-use native.Mathlib.Omega.{arith}
 use denote.Ref.{now}
-use lib.ListN.{length, length-map}
+use lib.ListN.{length}
+use Rattle.model.proofs.Each.{mapped}
 use Rattle.load.proofs.Tankwise.{take-load-is}
 use Rattle.load.proofs.take_load.Statement.{statement}
 use Rattle.load.proofs.take_load.Tie as tie
-
--- what owning an array of structs tells: its list has as many elements
-mapped : {A B : Type 0} (f : A → B) (l : List A) (n : ℕ) → length (map f l) ≡ n → length l ≡ n
-mapped f l n e = omega (arith, length-map l f)
 
 long : (c : tie.Start) → length (c .args .s .nodes) ≡ 256
 long c = mapped _ (c .args .s .nodes) 256 (c .good .1 .0 .1 .1 .0 .1 .0 .1)

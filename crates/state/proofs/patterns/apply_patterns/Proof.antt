@@ -15,9 +15,6 @@ Inv-loop p st₀ o t n i₀ st i = Ran n (nodePatterned p (tabled t)) st₀ i st
 abbrev μ-loop : tie.MeasureT-loop
 μ-loop p st₀ o t n i₀ st i = n - i
 
-period-requires : tie.Need-period-requires Inv-loop μ-loop
-period-requires c κs = tt
-
 period-table-requires : tie.Need-period-table-requires Inv-loop μ-loop
 period-table-requires c κs = tt
 
@@ -25,28 +22,28 @@ loop-holds : tie.Need-loop-holds Inv-loop μ-loop
 loop-holds c = begun
 
 mul-patterned : tie.Need-mul-patterned Inv-loop μ-loop
-mul-patterned c = omega (arith, c .before .before .before .before .before .before .pre .few .nodes)
+mul-patterned c = omega (arith, c .before .before .before .before .before .pre .few .nodes)
 
 element-copy-out-patterned : tie.Need-element-copy-out-patterned Inv-loop μ-loop
-element-copy-out-patterned c = omega (arith, c .before .before .before .before .before .before .pre .few .nodes)
+element-copy-out-patterned c = omega (arith, c .before .before .before .before .before .pre .few .nodes)
 
 mul-patterned-2 : tie.Need-mul-patterned-2 Inv-loop μ-loop
-mul-patterned-2 c = omega (arith, c .before .before .before .before .before .before .before .pre .few .nodes)
+mul-patterned-2 c = omega (arith, c .before .before .before .before .before .before .pre .few .nodes)
 
 element-copy-out-patterned-2 : tie.Need-element-copy-out-patterned-2 Inv-loop μ-loop
-element-copy-out-patterned-2 c = omega (arith, c .before .before .before .before .before .before .before .pre .few .nodes)
+element-copy-out-patterned-2 c = omega (arith, c .before .before .before .before .before .before .pre .few .nodes)
 
 patterned-requires : tie.Need-patterned-requires Inv-loop μ-loop
 patterned-requires c κs = tt
 
-mul-t23 : tie.Need-mul-t23 Inv-loop μ-loop
-mul-t23 c = omega (arith, c .before .before .before .before .before .before .before .before .before .pre .few .nodes)
+mul-t22 : tie.Need-mul-t22 Inv-loop μ-loop
+mul-t22 c = omega (arith, c .before .before .before .before .before .before .before .before .pre .few .nodes)
 
 element-set-from-st : tie.Need-element-set-from-st Inv-loop μ-loop
-element-set-from-st c = omega (arith, c .before .before .before .before .before .before .before .before .before .pre .few .nodes)
+element-set-from-st c = omega (arith, c .before .before .before .before .before .before .before .before .pre .few .nodes)
 
 add-i : tie.Need-add-i Inv-loop μ-loop
-add-i c = omega (arith, c .before .before .before .before .before .before .before .before .before .pre .few .nodes)
+add-i c = omega (arith, c .before .before .before .before .before .before .before .before .pre .few .nodes)
 
 loop-less : tie.Need-loop-less Inv-loop μ-loop
 loop-less c = search needs
@@ -56,7 +53,7 @@ loop-again c = turned (c .before .before .before .before .before .loop .inv) (se
 
 returns : tie.Need-returns Inv-loop μ-loop
 unfolding applyPatterns
-returns c = rw (← table-is, ← c .before .before .before .period .ensures, ← c .before .before .period-table .ensures) (ended (c .before .loop .inv) (c .loop-test .left) refl)
+returns c = rw (← table-is, ← c .before .before .period-table .ensures) (ended (c .before .loop .inv) (c .loop-test .left) refl)
 
 pub apply-patterns-spec : {M : Type 1} → statement M
 apply-patterns-spec =
@@ -64,7 +61,6 @@ apply-patterns-spec =
     (tie.spec
     Inv-loop
     μ-loop
-    period-requires
     period-table-requires
     loop-holds
     mul-patterned
@@ -72,7 +68,7 @@ apply-patterns-spec =
     mul-patterned-2
     element-copy-out-patterned-2
     patterned-requires
-    mul-t23
+    mul-t22
     element-set-from-st
     add-i
     loop-less

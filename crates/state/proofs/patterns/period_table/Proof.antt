@@ -5,17 +5,18 @@ use Prim.Native.Nat.{_-_}
 use mathlib.Core.Path.{refl}
 use native.Mathlib.Omega.{arith}
 use Rattle.model.proofs.Loops.{Ran, begun, turned, ended}
-use Rattle.model.specs.Patterns.{patternAt}
+use Rattle.model.specs.Patterns.{period, patternAt}
+use Rattle.pattern_view.specs.View.{multiplierInForce}
 use Rattle.state.specs.Patterns.{entered, tableOf}
 use borrow.Author.Needs.{needs}
 use Rattle.state.proofs.patterns.period_table.Statement.{statement}
 use Rattle.state.proofs.patterns.period_table.Tie as tie
 
 abbrev Inv-loop : tie.InvT-loop
-Inv-loop period p t₀ lengths k₀ t k = Ran 32 (entered p period) t₀ k t
+Inv-loop time p t₀ lengths start timestep k₀ t k = Ran 32 (entered p (period start timestep time)) t₀ k t
 
 abbrev μ-loop : tie.MeasureT-loop
-μ-loop period p t₀ lengths k₀ t k = 32 - k
+μ-loop time p t₀ lengths start timestep k₀ t k = 32 - k
 
 loop-holds : tie.Need-loop-holds Inv-loop μ-loop
 loop-holds c = begun
@@ -45,7 +46,7 @@ loop-less : tie.Need-loop-less Inv-loop μ-loop
 loop-less c = search needs
 
 loop-again : tie.Need-loop-again Inv-loop μ-loop
-unfolding patternAt
+unfolding patternAt multiplierInForce
 loop-again c = turned (c .before .before .before .before .loop .inv) (search needs) (rw (c .pattern-multiplier .ensures))
 
 returns : tie.Need-returns Inv-loop μ-loop

@@ -1,0 +1,134 @@
+#!/usr/bin/env python3
+"""Measures three drivers on the same images in one run: ours, the plain program and the oracle. Prints a table.
+
+    measure.py --driver PATH --oracle PATH [--runs 9] [--years 3] [--no-instructions]
+
+The images are two works of the stock with their loads, and a long run: the text of the largest works with another
+duration and without loads. Each image goes through all the programs in turn, as often as --runs says; a time is the
+median. Instructions are those of one run under valgrind, with its tool callgrind. Every listing has to be the same.
+"""
+
+import argparse
+import re
+import resource
+import statistics
+import subprocess
+import sys
+import tempfile
+import time
+from dataclasses import dataclass
+from pathlib import Path
+
+from check import HERE, STOCK, build
+
+ASSEMBLE = [HERE.parent.parent / "tools" / "image", "assemble", "--count", "--check", "-"]
+WORKS = ("ravensdale", "thornmoor")
+LARGEST = "thornmoor"
+HOURS_OF_YEAR = 8760
+
+
+@dataclass
+class Measured:
+    """One program on one image: seconds of wall and processor, and the instructions."""
+
+    wall: float
+    processor: float
+    instructions: int
+
+
+def main():
+    arguments = parse_arguments()
+    programs = {"driver": [arguments.driver], "plain": [str(build())], "oracle": [arguments.oracle, "driver"]}
+    images = {name: (STOCK / f"{name}.image").read_bytes() for name in WORKS}
+    images[f"{LARGEST}, {arguments.years} years"] = long_run(arguments.years)
+    print("| Works | Steps | Program | Wall, ms | Processor, ms | a step, µs | Instructions | a step | to plain's |")
+    print("|---|---|---|---|---|---|---|---|---|")
+    for name, image in images.items():
+        steps = steps_of(programs, image)
+        measured = measure(programs, image, arguments)
+        for program, one in measured.items():
+            print(row(name, steps, program, one, measured["plain"]), flush=True)
+
+
+def parse_arguments():
+    parser = argparse.ArgumentParser(description=__doc__, formatter_class=argparse.RawDescriptionHelpFormatter)
+    parser.add_argument("--driver", required=True, help="our driver")
+    parser.add_argument("--oracle", required=True)
+    parser.add_argument("--runs", type=int, default=9)
+    parser.add_argument("--years", type=int, default=3, help="the long run's duration")
+    parser.add_argument("--no-instructions", action="store_true", help="times only")
+    return parser.parse_args()
+
+
+def long_run(years):
+    """The image of the largest works with its duration changed and no loads, which its text does not have."""
+    text = (STOCK / f"{LARGEST}.txt").read_text()
+    changed, places = re.subn(r"(?m)^(options .*\bduration=)\S+", rf"\g<1>{years * HOURS_OF_YEAR}:00:00", text)
+    if places != 1:
+        sys.exit(f"no single duration in {LARGEST}.txt")
+    return subprocess.run(ASSEMBLE, input=changed.encode(), capture_output=True, check=True).stdout
+
+
+def steps_of(programs, image):
+    """The count at the end of the listing that all the programs print."""
+    listings = {name: run(command, image).stdout for name, command in programs.items()}
+    if len(set(listings.values())) != 1:
+        sys.exit("the listings differ")
+    return int(listings["plain"].split()[-1])
+
+
+def run(command, image):
+    return subprocess.run(command, input=image, capture_output=True, check=True)
+
+
+def measure(programs, image, arguments):
+    """Each program's medians. They take turns, so that whatever else the machine does falls on all of them."""
+    times = {name: [] for name in programs}
+    with tempfile.TemporaryDirectory() as folder:
+        path = Path(folder, "image")
+        path.write_bytes(image)
+        for _ in range(arguments.runs):
+            for name, command in programs.items():
+                times[name].append(timed(command, path))
+        counts = {
+            name: None if arguments.no_instructions else instructions(command, path, folder)
+            for name, command in programs.items()
+        }
+    medians = {name: [statistics.median(column) for column in zip(*pairs)] for name, pairs in times.items()}
+    return {name: Measured(*medians[name], counts[name]) for name in programs}
+
+
+def timed(command, path):
+    """Seconds of wall and processor from the start of the process to its end, its listing thrown away."""
+    with open(path, "rb") as image:
+        before, began = processor_seconds(), time.perf_counter()
+        subprocess.run(command, stdin=image, stdout=subprocess.DEVNULL, check=True)
+        return time.perf_counter() - began, processor_seconds() - before
+
+
+def processor_seconds():
+    usage = resource.getrusage(resource.RUSAGE_CHILDREN)
+    return usage.ru_utime + usage.ru_stime
+
+
+def instructions(command, path, folder):
+    callgrind = ["valgrind", "--tool=callgrind", f"--callgrind-out-file={folder}/callgrind.out"]
+    with open(path, "rb") as image:
+        done = subprocess.run(callgrind + command, stdin=image, stdout=subprocess.DEVNULL, stderr=subprocess.PIPE)
+    found = re.search(rb"Collected : (\d+)", done.stderr)
+    if done.returncode or not found:
+        sys.exit(f"valgrind: {done.stderr.decode(errors='replace')}")
+    return int(found[1])
+
+
+def row(works, steps, program, one, plain):
+    cells = [works, f"{steps:,}", program]
+    cells += [f"{1e3 * one.wall:.1f}", f"{1e3 * one.processor:.1f}", f"{1e6 * one.processor / steps:.2f}"]
+    if one.instructions:
+        ratio = one.instructions / plain.instructions
+        cells += [f"{one.instructions:,}", f"{one.instructions / steps:,.0f}", f"{ratio:.1f}"]
+    return f"| {' | '.join(cells)} |"
+
+
+if __name__ == "__main__":
+    main()

@@ -1,0 +1,393 @@
+"""The faults that faults.py plants.
+
+A fault in the reference names a file, lines and the smallest tokens that change, with their place among the same tokens
+of the line where it is not the first: none of the reference's text is kept here. A fault in the oracle's own source
+names the text that changes.
+"""
+
+import sys
+from dataclasses import dataclass
+
+
+@dataclass
+class Token:
+    """A token of a line, and what stands in its place."""
+
+    line: int
+    old: str
+    new: str
+    which: int = 1
+
+    def planted_in(self, text):
+        lines = text.split("\n")
+        parts = lines[self.line - 1].split(self.old)
+        if len(parts) <= self.which:
+            sys.exit(f"line {self.line} has no {self.old} number {self.which}")
+        lines[self.line - 1] = self.old.join(parts[: self.which]) + self.new + self.old.join(parts[self.which :])
+        return "\n".join(lines)
+
+
+@dataclass
+class Passage:
+    """A passage that a file has once, and what stands in its place."""
+
+    old: str
+    new: str
+
+    def planted_in(self, text):
+        if text.count(self.old) != 1:
+            sys.exit(f"not there once: {self.old}")
+        return text.replace(self.old, self.new)
+
+
+@dataclass
+class Fault:
+    words: str
+    file: str
+    changes: tuple
+    is_in_oracle: bool = False
+    shows_in: str = "other"
+
+    def planted_in(self, text):
+        for change in self.changes:
+            text = change.planted_in(text)
+        return text
+
+    def place(self):
+        lines = [change.line for change in self.changes if isinstance(change, Token)]
+        return f"{self.file}:{min(lines)}" if lines else f"oracle {self.file}"
+
+
+def fault(words, file, *changes):
+    """A fault in the reference, from (line, old, new) or (line, old, new, which)."""
+    return Fault(words, file, tuple(Token(*change) for change in changes))
+
+
+def reading(words, file, *changes):
+    """A fault in the oracle's own source, from (old, new)."""
+    shows_in = {"image.rs": "image", "driver.rs": "driver"}.get(file, "other")
+    return Fault(words, file, tuple(Passage(*change) for change in changes), True, shows_in)
+
+
+TANK, CONTROL, RULE, LINK = "model/tank.rs", "model/control.rs", "model/rule.rs", "model/link.rs"
+STATE, SOLVER, SIMULATION = "solver/state.rs", "solver/hydraulicsolver.rs", "simulation.rs"
+
+TEMPTING = [
+    fault("0.5 added and cut off in place of rounding", TANK,
+          (51, "round()", "mul_add(1.0, 0.5)"), (54, "round()", "mul_add(1.0, 0.5)")),
+    fault("the level times a ready-made area", TANK, (78, "PI", "(PI"), (78, "4.0", "4.0)")),
+    fault("a tank time of 0 is dropped before the smallest is taken", SIMULATION,
+          (288, "min", "filter(|&x| x > 0).min")),
+    fault("a clock control whose time has passed is active the same day", CONTROL, (136, "==", "<=")),
+    fault("a clock control that has passed gives its distance and not the next day's", SIMULATION,
+          (304, "+", ".abs() + 0 *")),
+    fault("an overflow tank closes when full", SOLVER, (482, "!", "true |")),
+]
+
+TANKS = [
+    fault("the greatest level is no target", TANK, (34, ">", ">=")),
+    fault("the least level is no target", TANK, (37, "<", "<=")),
+    fault("a target above the greatest level is timed", TANK, (34, ">", "> 1e9 +")),
+    fault("a target below the least level is timed", TANK, (37, "<", "< -1e9 +")),
+    fault("a gap of exactly 0.5 counts as none", TANK, (46, "<", "<=")),
+    fault("a gap counts as none under 0.25", TANK, (46, "0.5", "0.25")),
+    fault("a gap below 0 counts as none", TANK, (46, ".abs()", "")),
+    fault("seconds are cut off", TANK, (51, "round", "floor"), (54, "round", "floor")),
+    fault("seconds are rounded up", TANK, (51, "round", "ceil"), (54, "round", "ceil")),
+    fault("halves of a second go to the even one", TANK,
+          (51, "round", "round_ties_even"), (54, "round", "round_ties_even")),
+    fault("a draining tank is timed as a filling one, by a gap above 0", TANK, (53, "<", ">")),
+    fault("a tank without flow is timed, and at a limit hides the others", TANK, (61, "0.0", "f64::NAN")),
+    fault("the longer of the times to full and to empty", TANK, (66, "min", "max")),
+    fault("only the time to empty", TANK, (65, "max_level", "min_level")),
+    fault("only the time to full", TANK, (66, "min_level", "max_level")),
+    fault("a level below 0 has a volume below 0", TANK, (71, "0.0", "f64::MIN")),
+    fault("the surface from the diameter squared first", TANK, (107, "self", "(self"), (107, "/", ")/")),
+    fault("a level may rise over the greatest", TANK, (110, "self.max_level", "1e300")),
+    fault("a level may fall under the least", TANK, (110, "self.min_level", "-1e300")),
+    fault("a step of 0 at the end moves the levels within the limits", SIMULATION, (134, ">=", ">")),
+]
+
+PATTERNS = [
+    fault("the pattern start is left out", STATE, (91, "+", "* 0 +")),
+    fault("periods go by the report timestep", STATE, (92, "pattern_timestep", "report_timestep")),
+    fault("the default pattern holds for reservoirs", STATE,
+          (98, "head_pattern_index", "head_pattern_index.or(network.options.pattern.as_ref()"
+                             ".and_then(|id| network.pattern_map.get(id).copied()))")),
+    fault("a reservoir's pattern goes by days of 24 periods", STATE, (103, "%", "% 24 %")),
+    fault("a demand's pattern goes by days of 24 periods", STATE, (131, "%", "% 24 %")),
+    fault("a disabled junction has its demand", STATE, (118, "n.disabled", "false")),
+    fault("the default pattern is left out", STATE, (128, "default_pattern_idx", "None")),
+    fault("the default pattern wins over a demand's own", STATE,
+          (128, "default_pattern_idx", "demand.pattern_index"), (128, "demand.pattern_index", "default_pattern_idx")),
+    fault("only the last of a junction's demands", STATE, (134, "+=", "=")),
+    fault("the demand multiplier twice", STATE,
+          (135, "demand_multiplier", "demand_multiplier * network.options.demand_multiplier")),
+    fault("the demand multiplier left out", STATE, (135, "demand_multiplier", "demand_multiplier.powi(0)")),
+    fault("pattern and demand multiplier are multiplied first", STATE,
+          (135, "multiplier", "(multiplier"), (135, "demand_multiplier", "demand_multiplier)")),
+    fault("under PDA demand flows stay", STATE, (142, "demands", "demand_flows")),
+    fault("demand flows are copied without PDA too", STATE,
+          (141, "==", "!= DemandModel::DDA || network.options.demand_model !=")),
+]
+
+CONTROLS = [
+    fault("the start clock is left out for controls", STATE, (148, "+", "+ 0 *")),
+    fault("a day of 12 hours for controls", STATE, (148, "24", "12")),
+    fault("pressure controls are applied with the others", STATE, (156, "continue;", "")),
+    fault("level controls are applied at time 0", STATE, (161, "0", "usize::MAX")),
+    fault("level controls are always passed over, all controls at time 0", STATE, (161, "&&", "||")),
+    fault("a time control is active ever after", CONTROL, (135, "==", "<=")),
+    fault("high pressure without its limit", CONTROL, (140, ">=", ">")),
+    fault("low pressure without its limit", CONTROL, (145, "<=", "<")),
+    fault("high level without its limit", CONTROL, (153, ">=", ">")),
+    fault("low level without its limit", CONTROL, (161, "<=", "<")),
+    fault("high pressure with the tolerance of levels", CONTROL, (140, "H_TOL", "L_TOL")),
+    fault("low pressure with the tolerance of levels", CONTROL, (145, "H_TOL", "L_TOL")),
+    fault("high level with the tolerance of heads", CONTROL, (153, "L_TOL", "H_TOL")),
+    fault("low level with the tolerance of heads", CONTROL, (161, "L_TOL", "H_TOL")),
+    fault("high level's tolerance on the other side", CONTROL, (153, "-L", "L")),
+    fault("a high-level control of no tank is active", CONTROL, (150, "false", "true")),
+    fault("a low-level control of no tank is active", CONTROL, (158, "false", "true")),
+    fault("a setting wins over a status", CONTROL,
+          (170, "self.status", "self.status.filter(|_| self.setting.is_none())")),
+    fault("a setting is put beside a status", CONTROL,
+          (175, "return changed;", "if self.setting.is_none() { return changed; }")),
+    fault("a status leaves the flow", CONTROL, (174, "link.initial_flow()", "state.flows[*link_index]")),
+    fault("a setting leaves the flow", CONTROL, (181, "link.initial_flow()", "state.flows[*link_index]")),
+    fault("a status that changes nothing leaves the flow", CONTROL,
+          (174, "link.initial_flow()", "if changed { link.initial_flow() } else { state.flows[*link_index] }")),
+    fault("a setting that changes nothing leaves the flow", CONTROL,
+          (181, "link.initial_flow()", "if changed { link.initial_flow() } else { state.flows[*link_index] }")),
+    fault("a setting changes by its bits, so -0.0 for 0.0 too", CONTROL,
+          (178, "]", "].to_bits()"), (178, "setting;", "setting.to_bits();")),
+    fault("a status counts as a change where it is none", CONTROL, (171, "!=", "==")),
+]
+
+LINKS = [
+    fault("a link that starts fixed closed has the flow of an open one", LINK, (264, "FixedClosed", "Closed")),
+    fault("a link that starts closed has the flow of an open one", LINK, (265, "Closed", "FixedClosed")),
+    fault("a link that starts closed has no flow at all", LINK, (267, "Q_ZERO", "0.0")),
+    fault("a pipe's flow from PI times diameter first", "model/pipe.rs", (130, ".powi(2)", " * self.diameter")),
+    fault("a valve's flow from PI times diameter first", "model/valve.rs", (143, ".powi(2)", " * self.diameter")),
+    fault("a junction starts at its elevation", "model/node.rs", (52, "0.0", "self.elevation")),
+]
+
+CLOSING = [
+    fault("a tank at its greatest level does not close", SOLVER, (482, ">=", ">")),
+    fault("a tank at its least level does not close", SOLVER, (483, "<=", "<")),
+    fault("full by the least level, empty by the greatest", SOLVER,
+          (482, "max_level", "min_level"), (483, "min_level", "max_level")),
+    fault("a full tank closes a link into it without flow", SOLVER, (487, "> 0", ">= 0")),
+    fault("an empty tank closes a link into it without flow", SOLVER, (490, "< 0", "<= 0")),
+    fault("a full tank closes a link out of it without flow", SOLVER, (496, "< 0", "<= 0")),
+    fault("an empty tank closes a link out of it without flow", SOLVER, (499, "> 0", ">= 0")),
+    fault("full and empty are mixed up for links into a tank", SOLVER,
+          (487, "fill_closed", "empty_closed"), (490, "empty_closed", "fill_closed")),
+    fault("full and empty are mixed up for links out of a tank", SOLVER,
+          (496, "fill_closed", "empty_closed"), (499, "empty_closed", "fill_closed")),
+    fault("links out of a tank are taken first", SOLVER,
+          (485, "links_to", "links_from"), (486, "+=", "-="), (487, ">", "<"), (490, "<", ">"),
+          (494, "links_from", "links_to"), (495, "-=", "+="), (496, "<", ">"), (499, ">", "<")),
+    fault("closing adds to the demand that is there", SOLVER, (480, "0.0", "state.demands[tank_index]")),
+    fault("closing makes Closed of it", SOLVER, (488, "TempClosed", "Closed")),
+    fault("the pressure pass goes on after a change", SOLVER, (469, "||", "|")),
+    fault("the pressure pass takes low pressures only", SOLVER, (465, "HighPressure", "LowPressure")),
+]
+
+STEPS = [
+    fault("the remainder does not cap a step", SIMULATION, (140, "remaining", "remaining.max(usize::MAX)")),
+    fault("the start clock is left out for a step", SIMULATION, (259, "+", "+ 0 *")),
+    fault("the fast path with controls", SIMULATION, (262, "is_empty()", "is_empty() | true")),
+    fault("the fast path with tanks", SIMULATION, (263, "!", "true | !")),
+    fault("the fast path without the skip flag", SIMULATION, (265, "skip_timesteps", "(skip_timesteps | true)")),
+    fault("no fast path", SIMULATION, (265, "skip_timesteps", "(skip_timesteps & false)")),
+    fault("the fast path stops at pattern periods", SIMULATION,
+          (267, "report_timestep", "report_timestep.min(times.pattern_timestep)")),
+    fault("the report timestep sets no bound", SIMULATION, (326, "t_report", "t_report.max(t_pattern)")),
+    fault("the pattern timestep sets no bound", SIMULATION, (327, "t_pattern", "t_pattern.max(t_report)")),
+    fault("the pattern start moves the boundary of a step", SIMULATION,
+          (273, "current_time", "(current_time + times.pattern_start)")),
+    fault("a time control gives no time", SIMULATION, (297, "<", "< usize::MAX -")),
+    fault("a clock control that is due gives the next day's time", SIMULATION, (303, "<", "<=")),
+    fault("a clock control that has passed comes after half a day more", SIMULATION, (304, "24", "36")),
+    fault("a level control gives no time", SIMULATION, (313, "*target", "*target + f64::MAX")),
+    fault("a level control of no tank gives half an hour", SIMULATION, (315, "usize::MAX", "1800")),
+    fault("a pressure control gives half an hour", SIMULATION, (318, "usize::MAX", "1800")),
+    fault("a control in a second is dropped", SIMULATION, (320, "0", "1")),
+    fault("a control that is due hides the others' times", SIMULATION, (320, ">", ">=")),
+    fault("a hydraulic timestep of 0 is a bound", SIMULATION, (333, ">", ">=")),
+    fault("the hydraulic timestep sets no bound", SIMULATION, (330, "hydraulic_timestep", "report_timestep")),
+]
+
+PREMISES = [
+    fault("Eq without its limit", RULE, (107, "<= H", "< H")),
+    fault("Ne with its limit", RULE, (108, "> H", ">= H")),
+    fault("Gt with its limit", RULE, (109, "> H", ">= H")),
+    fault("Lt with its limit", RULE, (110, "< -", "<= -")),
+    fault("Ge without its limit", RULE, (111, ">= -", "> -")),
+    fault("Le without its limit", RULE, (112, "<= H", "< H")),
+    fault("numbers are compared with the tolerance of levels", RULE,
+          *((line, "H_TOL", "0.0001") for line in range(107, 113))),
+    fault("Eq without abs", RULE, (107, ".abs()", "")),
+    fault("Ge with its tolerance on the other side", RULE, (111, "-H", "H")),
+    fault("a status is at least and at most another", RULE, (121, "false", "true")),
+    fault("the system's demand sums demand flows", RULE, (148, "demands", "demand_flows")),
+    fault("the system's demand is summed from the last node", RULE, (148, "iter()", "iter().rev()")),
+    fault("the clock time for the system's time", RULE, (149, "time as", "clocktime as")),
+    fault("the time for the system's clock time", RULE, (150, "clocktime as", "time as")),
+    fault("a time's value in hours", RULE, (154, "as f64", "as f64 / 3600.0")),
+    fault("a status is 0 to the system", RULE, (155, "return false", "0.0")),
+    fault("a node's demand flow for its demand", RULE, (165, "demands", "demand_flows")),
+    fault("a node's pressure in feet", RULE, (167, "PSIperFT", "1.0")),
+    fault("a value that is no number is 0 to a node", RULE, (171, "return false", "0.0")),
+    fault("a tank's attribute of no tank is true", RULE, (181, "false", "true")),
+    fault("the fill time is the drain time", RULE, (189, "max_level", "min_level")),
+    fault("the drain time is the fill time", RULE, (192, "min_level", "max_level")),
+    fault("the fill time in seconds", RULE, (189, "3600.0", "1.0")),
+    fault("the drain time in seconds", RULE, (192, "3600.0", "1.0")),
+    fault("a value that is no number is 0 to a tank", RULE, (197, "return false", "0.0")),
+    fault("a link's flow with its sign", RULE, (211, ".abs()", "")),
+    fault("a value that is no number is 0 to a flow", RULE, (209, "return false", "0.0")),
+    fault("a value that is no number is 0 to a setting", RULE, (216, "return false", "0.0")),
+    fault("a value that is no status is Open", RULE, (223, "return false", "LinkStatus::Open")),
+]
+
+IMAGES = [
+    reading("16,385 words", "image.rs", ("16_384", "16_385")),
+    reading("33 patterns", "image.rs", ("PATTERNS: usize = 32", "PATTERNS: usize = 33")),
+    reading("257 nodes", "image.rs", ("NODES: usize = 256", "NODES: usize = 257")),
+    reading("385 links", "image.rs", ("LINKS: usize = 384", "LINKS: usize = 385")),
+    reading("65 controls", "image.rs", ("CONTROLS: usize = 64", "CONTROLS: usize = 65")),
+    reading("129 premises", "image.rs", ("PREMISES: usize = 128", "PREMISES: usize = 129")),
+    reading("a second over ten years", "image.rs", ("315_360_000", "315_360_001")),
+    reading("clock times of a whole day", "image.rs", ("86_399", "86_400")),
+    reading("a clock control after its day", "image.rs", ("if code == 4 { LONGEST_TIME", "if code < 6 { LONGEST_TIME")),
+    reading("a report timestep of 0", "image.rs",
+            ("report_timestep = payload.seconds(1", "report_timestep = payload.seconds(0")),
+    reading("a pattern timestep of 0", "image.rs",
+            ("pattern_timestep = payload.seconds(1", "pattern_timestep = payload.seconds(0")),
+    reading("feet just over 100,000", "image.rs", ("= 100_000.0", "= 100_000.00000000001")),
+    reading("a diameter just under 0.001", "image.rs", ("= 0.001", "= 0.00099999999999999")),
+    reading("a diameter just over 10,000", "image.rs", ("= 10_000.0", "= 10_000.000000000002")),
+    reading("a premise number over 10^12", "image.rs", ("1e12", "1.0000000000001e12")),
+    reading("other numbers just over 1,000,000", "image.rs", ("= 1_000_000.0", "= 1_000_000.0000000001")),
+    reading("a NaN lies in every range", "image.rs",
+            ("least <= number && number <= most", "!(number < least || most < number)")),
+    reading("an eleventh status", "image.rs", ("STATUSES: u32 = 10", "STATUSES: u32 = 11")),
+    reading("a seventh comparison", "image.rs", ("COMPARISONS: u32 = 6", "COMPARISONS: u32 = 7")),
+    reading("a third flag of options and controls", "image.rs", ("word & !bits == 0", "word & !bits & !4 == 0")),
+    reading("bits 16 to 27 of a header are not looked at", "image.rs", ("middle_bits(header) == 0 && ", "")),
+    reading("options a second time", "image.rs", ("stage != 0 && last", "last")),
+    reading("options may be missing", "image.rs", ("None => stage == 0", "None => stage <= 1")),
+    reading("stages in any order", "image.rs", ("last <= stage", "last <= stage + 5")),
+    reading("a pattern of 169 multipliers", "image.rs", ("2 * 168", "2 * 169")),
+    reading("half a multiplier", "image.rs", ("contains(&size) && size % 2 == 0", "contains(&size)")),
+    reading("a junction of five demands", "image.rs", ("3..=15", "3..=18")),
+    reading("a premise past the end is told after the room in its table", "image.rs",
+            ("if after.len() < size {", "if after.len() < size && project.premises.len() < MOST_PREMISES {"),
+            ("after.split_at(size)", "after.split_at(size.min(after.len()))")),
+    reading("a link's ends may be the same", "image.rs", ("start != end", "true")),
+    reading("least above greatest", "image.rs", ("require(least <= greatest)", "require(true)")),
+    reading("unused words are not looked at", "image.rs", ("self.require(word == 0)", "self.require(word == word)")),
+    reading("-0.0 in an unused number", "image.rs",
+            ("fn unused_number(&mut self) {",
+             "fn unused_number(&mut self) { let bits = self.bits(); return self.require(bits << 1 == 0);")),
+    reading("the index of a system's premise is not looked at", "image.rs", ("require(index == 0)", "require(true)")),
+    reading("an index one past the last", "image.rs", ("if index < count", "if index <= count")),
+    reading("a link's start is judged before its words", "image.rs",
+            ("let size = match sort {", "judge_index(start, project.nodes.len())?; let size = match sort {")),
+    reading("the room for a link is judged after its words", "image.rs",
+            ("judge_room(self.links.len(), MOST_LINKS)?;", ""),
+            ("self.links.push(link(payload, self)?)",
+             "let link = link(payload, self)?; judge_room(self.links.len(), MOST_LINKS)?; self.links.push(link)")),
+    reading("the default pattern is not judged", "image.rs",
+            ("pattern_index(project.options.default_pattern, &project)?;", "")),
+    reading("the default pattern is judged behind the patterns and not at the end", "image.rs",
+            ("let size = payload_words(header);",
+             "let size = payload_words(header); "
+             "if kind > 2 { pattern_index(project.options.default_pattern, &project)?; }")),
+    reading("a count past the end of the input is cut down", "input.rs",
+            ("self.words(count).ok_or(NO_IMAGE)?", "self.words(count.min(self.bytes.len() / 4)).ok_or(NO_IMAGE)?")),
+]
+
+LOADS = [
+    reading("a load of another kind", "load.rs", ("header >> 28 == 15 && ", "")),
+    reading("bits 16 to 27 of a load's header are not looked at", "load.rs", ("middle_bits(header) == 0 && ", "")),
+    reading("the size in a load's header is not looked at", "load.rs",
+            ("payload_words(header) == size", "size == size")),
+    reading("words after a load are let go", "load.rs", ("words.len() != load_words", "words.len() < load_words")),
+    reading("number 8 is told before 7", "load.rs",
+            ("judge_header(header, links, junctions)?;",
+             "if payload.chunks_exact(2).any(|pair| pair[1] >> 20 & 0x7ff == 0x7ff) { return Err(VALUE); } "
+             "judge_header(header, links, junctions)?;")),
+    reading("a value of exactly 10^12 is refused", "load.rs", ("number.abs() <= MOST", "number.abs() < MOST")),
+    reading("a NaN is taken", "load.rs",
+            ("|number| number.abs() <= MOST", "|number| number.is_nan() || number.abs() <= MOST")),
+    reading("heads stand before flows", "load.rs",
+            ("let (flows, heads) = numbers.split_at(links)", "let (heads, flows) = numbers.split_at(junctions)")),
+    reading("junctions' heads from the last to the first", "progress.rs",
+            ("load.heads.into_iter()", "load.heads.into_iter().rev()")),
+    reading("a disabled junction keeps its head", "progress.rs",
+            ("NodeType::Junction(_) => state",
+             "NodeType::Junction(_) if node.disabled => drop(heads.next()), NodeType::Junction(_) => state")),
+    reading("a load sets junctions' demands to 0", "progress.rs",
+            ("match node.node_type {", "state.demands[index] = 0.0; match node.node_type {")),
+    reading("a load adds to a tank's demand", "progress.rs", ("=> state.demands[index] = 0.0,", "=> {}")),
+    reading("a tank's inflow with the other sign", "progress.rs",
+            ("demands[link.end_node] += flow", "demands[link.end_node] -= flow"),
+            ("demands[link.start_node] -= flow", "demands[link.start_node] += flow")),
+    reading("a tank's inflow without the links out of it", "progress.rs",
+            ("demands[link.start_node] -= flow", "demands[link.start_node] -= 0.0 * flow")),
+    reading("a tank's inflow from the last link to the first", "progress.rs",
+            ("network.links.iter().zip(&state.flows)", "network.links.iter().zip(&state.flows).rev()")),
+    reading("a load sets reservoirs' heads back", "progress.rs",
+            ("NodeType::Reservoir(_) => {}", "NodeType::Reservoir(_) => state.heads[index] = node.elevation,")),
+]
+
+CALLS = [
+    reading("a premise's clock time without the start clock", "progress.rs",
+            ("(time + network.options", "(time + 0 * network.options")),
+    reading("the last premise is refused", "progress.rs",
+            ("get(number as usize)", "get(number as usize).filter(|_| number as usize + 1 < self.premises.len())")),
+    reading("a premise past the last is false", "progress.rs",
+            ("let premise = self.premises.get(number as usize).ok_or(NO_SUCH_PREMISE)?;",
+             "let Some(premise) = self.premises.get(number as usize) else { return Ok(false) };")),
+    reading("a step of 0 counts", "progress.rs", ("self.instant() != before", "self.instant() >= before")),
+    reading("a pump's setting starts at its speed", "progress.rs",
+            ("state.settings[index] = link.setting", "state.settings[index] += 0.0 * link.setting")),
+    reading("TempClosed and Closed change places", "network.rs",
+            ("LinkStatus::TempClosed,", "LinkStatus::Closed, LinkStatus::TempClosed,"),
+            ("LinkStatus::TempClosed,\n    LinkStatus::Closed,", "LinkStatus::TempClosed,")),
+    reading("a high level is a low one", "network.rs",
+            ("=> ControlCondition::HighLevel { tank", "=> ControlCondition::LowLevel { tank")),
+    reading("Ge and Gt change places", "network.rs",
+            ("2 => ComparisonOperator::Gt", "2 => ComparisonOperator::Ge"),
+            ("4 => ComparisonOperator::Ge", "4 => ComparisonOperator::Gt")),
+]
+
+DRIVING = [
+    reading("a load before the controls", "driver.rs",
+            ("progress.controls();", ""), ("progress.close();", "progress.controls(); progress.close();")),
+    reading("closing before the load", "driver.rs",
+            ("progress.close();", ""), ("progress.controls();", "progress.controls(); progress.close();")),
+    reading("no closing", "driver.rs", ("progress.close();", "")),
+    reading("a pressure pass in the driver", "driver.rs",
+            ("progress.close();", "progress.pressure(); progress.close();")),
+    reading("controls at the first step only", "driver.rs",
+            ("progress.controls();", "if progress.count() == 0 { progress.controls(); }")),
+    reading("stray bytes for a load are let go", "driver.rs",
+            ("let header = input.peek().ok_or(CUT_LOAD)?;",
+             "let Some(header) = input.peek() else { return Ok(()) };")),
+    reading("a load cut by the end is let go", "driver.rs",
+            ("progress.junctions())).ok_or(CUT_LOAD)?;", "progress.junctions())).unwrap_or_default();"),
+            ("progress.load(&words)", "if words.is_empty() { Ok(()) } else { progress.load(&words) }")),
+    reading("loads left over are read", "driver.rs",
+            ('writeln!(out, "steps {}", progress.count())',
+             'while !input.is_empty() { if let Err(fault) = take_load(&mut progress, &mut input) '
+             '{ return writeln!(out, "refused {fault}"); } } writeln!(out, "steps {}", progress.count())')),
+]
+
+FAULTS = [
+    *TEMPTING, *TANKS, *PATTERNS, *CONTROLS, *LINKS, *CLOSING, *STEPS, *PREMISES, *IMAGES, *LOADS, *CALLS, *DRIVING,
+]

@@ -1,0 +1,37 @@
+// Every call asked on tables and a state, and its number printed.
+use calls::PremiseAnswer;
+use libc::STDOUT_FILENO;
+use model::*;
+
+fn print(n: u32) {
+    io::write_all(STDOUT_FILENO, b" ");
+    io::print_decimal(STDOUT_FILENO, n as u64);
+}
+
+fn premise_number(a: PremiseAnswer) -> u32 {
+    match a {
+        PremiseAnswer::Truth(_) => 0,
+        PremiseAnswer::Refused(n) => n,
+    }
+}
+
+// The start, patterns, controls, a load without a word, closing, the pressure pass, premise 0 and the step.
+pub fn print_numbers(p: Project, s: State) {
+    let start = calls::new_with_initial_values(p);
+    print(start.number);
+    let patterns = calls::apply_patterns(p, s);
+    print(patterns.number);
+    let controls = calls::apply_controls(p, s);
+    print(controls.number);
+    let none: [u32; 1] = [0];
+    let load = calls::take_load(p, s, &none);
+    print(load.number);
+    let close = calls::update_tank_links(p, s);
+    print(close.number);
+    let pressure = calls::apply_pressure_controls(p, s);
+    print(pressure.number);
+    print(premise_number(calls::premise_truth(p, s, 0)));
+    let step = calls::next_hydraulic_timestep(p, s);
+    print(step.number);
+    io::write_all(STDOUT_FILENO, b"\n");
+}

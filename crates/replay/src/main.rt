@@ -1,0 +1,16 @@
+// The program `replay`: reads an image and a list of calls from standard input, and prints what each call answers with the whole state after it.
+use libc::STDIN_FILENO;
+use libc::STDOUT_FILENO;
+
+fn main() {
+    let mut table = [0u32; 16384];
+    let mut bytes = io::large_buffer();
+    let mut out = io::large_buffer();
+    transcript::transcribe(
+        STDIN_FILENO,
+        STDOUT_FILENO,
+        &mut table,
+        &mut bytes,
+        &mut out,
+    );
+}

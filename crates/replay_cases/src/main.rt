@@ -1,0 +1,41 @@
+// Replays each of the files case000, case001, .. of the folder that it is run in, and prints a line with the name of each before its transcript.
+// `compare/rust/vectors.py` chose them; what they must print is the Rust's answer.
+use libc::STDOUT_FILENO;
+
+// Replays case i, and answers whether there is one.
+fn run_case(i: u32, table: &mut [u32], bytes: &mut [u8], out: &mut [u8]) -> bool {
+    let mut name = [b'c', b'a', b's', b'e', 48, 48, 48];
+    name[4] = (48 + i / 100 % 10) as u8;
+    name[5] = (48 + i / 10 % 10) as u8;
+    name[6] = (48 + i % 10) as u8;
+    let fd = os::open_read(&name);
+    if fd < 0 {
+        return false;
+    }
+    io::write_all(STDOUT_FILENO, &name);
+    io::write_all(STDOUT_FILENO, b"\n");
+    transcript::transcribe(fd, STDOUT_FILENO, table, bytes, out);
+    libc::close(fd);
+    true
+}
+
+// Replays the cases up to the first number that has none, and answers how many they are.
+fn run_all(table: &mut [u32], bytes: &mut [u8], out: &mut [u8]) -> u32 {
+    let mut i = 0;
+    while i < 1000 {
+        if !run_case(i, table, bytes, out) {
+            return i;
+        }
+        i += 1;
+    }
+    i
+}
+
+fn main() {
+    let mut table = [0u32; 16384];
+    let mut bytes = io::large_buffer();
+    let mut out = io::large_buffer();
+    let n = run_all(&mut table, &mut bytes, &mut out);
+    io::print_decimal(STDOUT_FILENO, n as u64);
+    io::write_all(STDOUT_FILENO, b" cases\n");
+}
