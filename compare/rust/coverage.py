@@ -16,7 +16,7 @@ import generate
 from image import *
 from programs import Program
 from run import chunks
-from steps import NEVER, Levels, causes, control_time, tank_time
+from steps import NEVER, Levels, causes, control_time, tank_time, time_to_reach
 from values import H_TOL, L_TOL, volume
 
 PRESSURE_CONDITIONS = (HIGH_PRESSURE, LOW_PRESSURE)
@@ -60,6 +60,8 @@ def count_case(counts, kind, case, answer):
         count_replay(counts, case, lines)
         if kind == "edge":
             count_edges(counts, case, lines)
+        if kind == "hours":
+            count_hours(counts, case, lines)
 
 
 def count_replay(counts, case, lines):
@@ -89,6 +91,19 @@ def count_edges(counts, case, lines):
                 limit = -L_TOL if control.condition == HIGH_LEVEL else L_TOL
                 if excess(case.project, before, control) == limit:
                     counts[f"edge: {CONDITIONS[control.condition]} acts on its limit"] += 1
+
+
+def count_hours(counts, case, lines):
+    """The fill and drain times that would lie on the other side of a limit if their last place were another."""
+    tank = case.project.nodes[0]
+    for call, line in zip(case.calls, lines):
+        if call.code == PREMISE_CALL:
+            before, premise = State(case.project, line), case.project.premises[call.premise]
+            target = tank.greatest if premise.attribute == 4 else tank.least
+            seconds = time_to_reach(tank, before.heads[0] - tank.elevation, target, before.demands[0])
+            hours = (seconds / 3600.0, seconds * (1.0 / 3600.0))
+            sides = {(time - premise.value <= H_TOL, time - premise.value >= -H_TOL) for time in hours}
+            counts[f"hours: {ATTRIBUTES[premise.attribute]} by its last place"] += len(sides) > 1
 
 
 def count_strain(counts, case):
@@ -321,6 +336,7 @@ def expected():
     yield from named("pumps", ["setting 0", "flow not a multiple of the setting"])
     yield from named("image", ["largest tables", "all its words used"])
     yield from named("edge", (f"{condition} acts on its limit" for condition in CONDITIONS[HIGH_LEVEL:TIME]))
+    yield from named("hours", (f"tank {way} time by its last place" for way in ("fill", "drain")))
     orders = ("in link order", "with links out first")
     yield from named("strain", (f"a sum {order} gives another time" for order in orders))
 

@@ -36,9 +36,9 @@ PATIENCE = 60
 
 # An image's faults show in images first, a driver's in the driver.
 ORDERS = {
-    "image": ("sweep", "image", "replay", "edge", "driver", "strain"),
-    "driver": ("driver", "strain", "replay", "edge", "image", "sweep"),
-    "other": ("replay", "edge", "driver", "strain", "image", "sweep"),
+    "image": ("sweep", "image", "replay", "edge", "hours", "driver", "strain"),
+    "driver": ("driver", "strain", "replay", "edge", "hours", "image", "sweep"),
+    "other": ("replay", "edge", "hours", "driver", "strain", "image", "sweep"),
 }
 
 # Built for a quick build: what the oracle answers does not depend on it.

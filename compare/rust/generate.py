@@ -1,8 +1,8 @@
 #!/usr/bin/env python3
 """Random projects, lists of calls, driver inputs and damaged images, each fixed by its seed.
 
-    generate.py --replay SEED | --edge SEED | --driver SEED | --strain SEED | --image SEED | --sweep NUMBER
-                [--out FILE] [--text]
+    generate.py --replay SEED | --edge SEED | --hours SEED | --driver SEED | --strain SEED | --image SEED |
+                --sweep NUMBER [--out FILE] [--text]
 
 A sweep's images are not random: they try each field's limits, each header and each table's end one by one.
 """
@@ -45,15 +45,22 @@ def drive_case(seed):
 
 
 def edge_case(seed):
-    """Calls on tanks that stay empty at level 0: no other level misses a target by a tolerance to the last bit."""
+    """Calls on tanks that stay at their least level, and level controls whose targets it misses by just the tolerance.
+
+    To the last bit that is only possible at level 0; at others the target is one of those about it.
+    """
     chance = Chance(f"edge {seed}")
     project = make_project(chance)
     for index in project.tanks():
         tank = project.nodes[index]
-        tank.least, tank.greatest, tank.initial = 0.0, max(tank.greatest, 0.0), 0.0
+        tank.least = chance.among((2, 0.0), (2, lambda: float(chance.randint(1, 9))), (1, tank.least))
+        tank.greatest, tank.initial = max(tank.greatest, tank.least), tank.least
     for control in project.controls:
-        if control.condition in (HIGH_LEVEL, LOW_LEVEL) and isinstance(project.nodes[control.subject], Tank):
-            control.target = beside(chance, L_TOL if control.condition == HIGH_LEVEL else -L_TOL)
+        node = project.nodes[control.subject] if control.condition in (HIGH_LEVEL, LOW_LEVEL) else None
+        if isinstance(node, Tank):
+            level = node.elevation + node.least - node.elevation
+            target = level + (L_TOL if control.condition == HIGH_LEVEL else -L_TOL)
+            control.target = min(max(beside(chance, target), -MOST_FEET), MOST_FEET)
             set_action(chance, control, chance.choice((1, 2, 3)))
     loads = [drained(chance, project, moment.load) for moment in make_moments(chance, project)]
     return Replay(project, [call for load in loads for call in driver_cycle(chance, project, load)])
@@ -66,6 +73,24 @@ def drained(chance, project, load):
             if tank in (link.start, link.end):
                 load.flows[number] = math.copysign(load.flows[number], -1.0 if link.end == tank else 1.0)
     return load
+
+
+def hours_case(seed):
+    """Loads on one tank, and after each a premise about its fill or drain time, which misses its number by just the
+    tolerance, give or take the last place."""
+    chance = Chance(f"hours {seed}")
+    tank = Tank(make_elevation(chance), initial=chance.uniform(2.0, 8.0), greatest=10.0, diameter=diameter(chance))
+    level = tank.elevation + tank.initial - tank.elevation
+    project = Project(Options(duration=DAY), [], [tank, Reservoir(50.0)], [Link(1, 0)])
+    calls = []
+    for number in range(12):
+        target, attribute = chance.choice(((tank.greatest, 4), (tank.least, 5)))
+        flow = (volume(tank, target) - volume(tank, level)) / chance.randint(100, 1_000_000)
+        hours = time_to_reach(tank, level, target, flow) / 3600.0
+        value = beside(chance, hours + chance.choice((H_TOL, -H_TOL)))
+        project.premises.append(Premise(0, attribute, 0, chance.randrange(6), NUMBER, min(value, MOST_LOADED)))
+        calls += [Call(LOAD_CALL, load=Load([flow], [])), Call(PREMISE_CALL, premise=number)]
+    return Replay(project, calls)
 
 
 def strain_case(seed):
@@ -597,6 +622,7 @@ def fill_up(project):
 CASES = {
     "replay": replay_case,
     "edge": edge_case,
+    "hours": hours_case,
     "driver": drive_case,
     "strain": strain_case,
     "image": image_case,

@@ -26,7 +26,7 @@ from programs import Program
 from run import chunks
 
 KINDS = ["sweep", "image", "replay"]
-OTHER_KINDS = ("driver", "edge", "strain")
+OTHER_KINDS = ("driver", "edge", "hours", "strain")
 LARGE = 20_000  # bytes of input and answer
 CALL_CODES = range(PATTERNS_CALL, STEP_CALL + 1)
 
