@@ -9,6 +9,7 @@ them, or a line that begins with `panic`, ends the count with code 1; so does a 
 
 import argparse
 import math
+import struct
 import sys
 from collections import Counter
 
@@ -94,16 +95,28 @@ def count_edges(counts, case, lines):
 
 
 def count_hours(counts, case, lines):
-    """The fill and drain times that would lie on the other side of a limit if their last place were another."""
-    tank = case.project.nodes[0]
+    """The fill and drain times that would lie on the other side of a limit if their last place were another, and the
+    instants that 24 bits do not hold."""
     for call, line in zip(case.calls, lines):
         if call.code == PREMISE_CALL:
             before, premise = State(case.project, line), case.project.premises[call.premise]
-            target = tank.greatest if premise.attribute == 4 else tank.least
-            seconds = time_to_reach(tank, before.heads[0] - tank.elevation, target, before.demands[0])
-            hours = (seconds / 3600.0, seconds * (1.0 / 3600.0))
-            sides = {(time - premise.value <= H_TOL, time - premise.value >= -H_TOL) for time in hours}
-            counts[f"hours: {ATTRIBUTES[premise.attribute]} by its last place"] += len(sides) > 1
+            if premise.attribute == 10:
+                is_longer = before.instant != rounded_to_24_bits(before.instant)
+                counts["hours: system time in more than 24 bits"] += is_longer
+            else:
+                count_hour(counts, case.project.nodes[0], before, premise)
+
+
+def rounded_to_24_bits(number):
+    return struct.unpack("<f", struct.pack("<f", number))[0]
+
+
+def count_hour(counts, tank, before, premise):
+    target = tank.greatest if premise.attribute == 4 else tank.least
+    seconds = time_to_reach(tank, before.heads[0] - tank.elevation, target, before.demands[0])
+    hours = (seconds / 3600.0, seconds * (1.0 / 3600.0))
+    sides = {(time - premise.value <= H_TOL, time - premise.value >= -H_TOL) for time in hours}
+    counts[f"hours: {ATTRIBUTES[premise.attribute]} by its last place"] += len(sides) > 1
 
 
 def count_strain(counts, case):
@@ -337,6 +350,7 @@ def expected():
     yield from named("image", ["largest tables", "all its words used"])
     yield from named("edge", (f"{condition} acts on its limit" for condition in CONDITIONS[HIGH_LEVEL:TIME]))
     yield from named("hours", (f"tank {way} time by its last place" for way in ("fill", "drain")))
+    yield from named("hours", ["system time in more than 24 bits"])
     orders = ("in link order", "with links out first")
     yield from named("strain", (f"a sum {order} gives another time" for order in orders))
 

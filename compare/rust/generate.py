@@ -77,11 +77,13 @@ def drained(chance, project, load):
 
 def hours_case(seed):
     """Loads on one tank, and after each a premise about its fill or drain time, which misses its number by just the
-    tolerance, give or take the last place."""
+    tolerance, give or take the last place; then a long step, and premises about the second at which it ends."""
     chance = Chance(f"hours {seed}")
     tank = Tank(make_elevation(chance), initial=chance.uniform(2.0, 8.0), greatest=10.0, diameter=diameter(chance))
     level = tank.elevation + tank.initial - tank.elevation
-    project = Project(Options(duration=DAY), [], [tank, Reservoir(50.0)], [Link(1, 0)])
+    length = chance.randint(1 << 24, LONGEST_TIME - 1)
+    options = Options(duration=LONGEST_TIME, report=length, pattern=length)
+    project = Project(options, [], [tank, Reservoir(50.0)], [Link(1, 0)])
     calls = []
     for number in range(12):
         target, attribute = chance.choice(((tank.greatest, 4), (tank.least, 5)))
@@ -90,6 +92,11 @@ def hours_case(seed):
         value = beside(chance, hours + chance.choice((H_TOL, -H_TOL)))
         project.premises.append(Premise(0, attribute, 0, chance.randrange(6), NUMBER, min(value, MOST_LOADED)))
         calls += [Call(LOAD_CALL, load=Load([flow], [])), Call(PREMISE_CALL, premise=number)]
+    calls += [Call(LOAD_CALL, load=Load([0.0], [])), Call(STEP_CALL)]
+    for number in range(12, 16):
+        value = length + chance.randint(-1, 1)
+        project.premises.append(Premise(0, 10, 0, chance.randrange(6), SECONDS, value))
+        calls.append(Call(PREMISE_CALL, premise=number))
     return Replay(project, calls)
 
 
