@@ -114,6 +114,11 @@ def seeded():
     return (case for case in map(generate.drive_case, SEEDS) if len(case.input()) <= MOST_BYTES)
 
 
+def strained():
+    """The load is taken before closing, which only these show."""
+    return map(generate.strain_case, range(1, 6))
+
+
 def stock():
     return [Raw(image.read_bytes()) for image in sorted(STOCK.glob("*.image"))]
 
@@ -133,7 +138,7 @@ def main():
     data.mkdir(parents=True, exist_ok=True)
     for old in data.glob("case*"):
         old.unlink()
-    inputs = [case.input() for part in (counts, images, loads, long_ones, seeded, stock) for case in part()]
+    inputs = [case.input() for part in (counts, images, loads, long_ones, seeded, strained, stock) for case in part()]
     answers = Program(arguments.oracle).answers([(DRIVER, given) for given in inputs])
     check_stock(answers[-len(stock()):])
     expected = b""

@@ -7,7 +7,8 @@ Out of the seeds' lists of calls and damaged images and out of the sweep, the sm
 something which fewer than --times of those kept before it reach, and a large one only for what none of them reaches;
 coverage.py names what there is. A list of calls is cut behind the last call that it was kept for, but not to fewer than
 --least-calls; on a project with the largest tables it is one call of each sort. In front stand inputs whose count is
-wrong. data/case000, data/case001, .. are the inputs; stdout has for each a line with its name and then the answer, and
+wrong, and at the end the cases of the narrow kinds by which faults.py finds what no other kind shows. data/case000,
+data/case001, .. are the inputs; stdout has for each a line with its name and then the answer, and
 ends with the number of cases. Where something is not reached it is named, and the end is code 1; what coverage.py
 counts of `driver` is not asked for.
 """
@@ -27,6 +28,7 @@ from run import chunks
 
 KINDS = ["sweep", "image", "replay"]
 OTHER_KINDS = ("driver", "edge", "hours", "strain")
+NARROW = {"edge": (1, 2, 3, 35, 63, 422), "hours": (1, 2, 149, 155)}  # seeds
 LARGE = 20_000  # bytes of input and answer
 CALL_CODES = range(PATTERNS_CALL, STEP_CALL + 1)
 
@@ -44,7 +46,7 @@ def main():
     oracle = Program(arguments.oracle)
     found = candidates(oracle, arguments.seed, arguments.count)
     kept, reached = chosen(oracle, found, arguments.times, arguments.least_calls)
-    inputs = miscounted() + [case.input() for case in kept]
+    inputs = [*miscounted(), *(case.input() for case in kept), *narrow()]
     write(Path(arguments.out), inputs, oracle.answers([(REPLAY, data) for data in inputs]))
     print(f"{len(inputs)} cases in {arguments.out}, which reach {len(reached)} things")
     missing = [name for name in expected() if not name.startswith(OTHER_KINDS) and not reached[name]]
@@ -69,6 +71,10 @@ def miscounted():
     whole = to_bytes([len(image)] + image)
     counts = (0, len(image) + 1, MOST_WORDS, MOST_WORDS + 1, 1 << 31, (1 << 32) - 1)
     return [b"", whole[:3], whole[:4], whole[:-1]] + [to_bytes([count] + image) for count in counts]
+
+
+def narrow():
+    return [generate.CASES[kind](seed).input() for kind, seeds in NARROW.items() for seed in seeds]
 
 
 def candidates(oracle, seed, count):
