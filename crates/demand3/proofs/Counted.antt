@@ -23,13 +23,14 @@ use Rattle.calls.specs.Calls as calls
 use Rattle.calls.specs.Calls.{start}
 use Rattle.calls.specs.declared.PremiseAnswer.{PremiseAnswer}
 use Rattle.calls.specs.declared.PremiseAnswer.the-variants.{Truth, Refused}
+use Rattle.image.proofs.Turns.{rest}
 use Rattle.demand3.specs.Calls.{Call, patterns, controls, load, tankLinks, pressure, premise, step, isStep, asked as askedOf, outcome}
 use Rattle.demand3.specs.Lists.{callOf, callLength, callOk, callsOf, listOk, noneRun, counted, countedAll, runList, Answers}
 use Rattle.demand3.specs.Machine.{machine}
 use Rattle.demand3.specs.declared.outcome.Outcome.{Outcome}
 use Rattle.demand3.specs.declared.run.Ran.{Ran}
 use Rattle.demand3.proofs.Lawful.{lawful}
-use Rattle.demand3.proofs.Lists.{rest, calls-here, ok-here, fits-here, calls-end}
+use Rattle.demand3.proofs.Lists.{calls-here, ok-here, fits-here, calls-end}
 use Rattle.demand3.proofs.Quiet.{quiet}
 use Rattle.demand3.proofs.Theorem.{demand3-of-tables}
 

@@ -6,10 +6,11 @@ use mathlib.Core.List.{List, [], _∷_}
 use native.Mathlib.Omega.{arith}
 use lib.Dec.{eqb, leb}
 use borrow.Author.Tests.{leb-true}
-use lib.ListN.{length, take, drop, getD, length-drop, drop-of-length-le}
-use lib.Seq.{drop-drop, take-all}
+use lib.ListN.{length, drop, drop-of-length-le}
+use lib.Seq.{drop-drop}
 use Rattle.model.proofs.Loops.{both-left, both-right}
 use Rattle.entries.specs.Words.{word}
+use Rattle.image.proofs.Turns.{rest, rest-is, rest-length}
 use Rattle.demand3.specs.Calls.{Call}
 use Rattle.demand3.specs.Lists.{callOf, callLength, callOk, callsOf, listOk}
 
@@ -63,16 +64,10 @@ ok-more (w ∷ ws) l =
     ap (λ b. callOk (w ∷ ws) && b)
     (ok-skip ws (callLength (w ∷ ws) - 1) ∙ ap (listOk 0) (drop-pred w ws (callLength (w ∷ ws)) (length-some (w ∷ ws))))
 
--- ---- the words from a place on, as a part of the slice has them
-abbrev pub rest : List ℕ → ℕ → List ℕ
-rest words at = take (length words - at) (drop at words)
-
-pub rest-is : (words : List ℕ) (at : ℕ) → rest words at ≡ drop at words
-rest-is words at = take-all (length words - at) (drop at words) (rw length-drop (omega arith))
-
+-- ---- from a place on
 module _ (words : List ℕ) (at : ℕ) (here : at < length words) where
   rest-some : 0 < length (rest words at)
-  rest-some = rw (rest-is words at, length-drop) (omega arith)
+  rest-some = rw (rest-length words at) (omega arith)
 
   next-is : drop (callLength (rest words at)) (rest words at) ≡ drop (at + callLength (rest words at)) words
   next-is = ap (drop (callLength (rest words at))) (rest-is words at) ∙ drop-drop (callLength (rest words at)) at words
@@ -88,9 +83,7 @@ module _ (words : List ℕ) (at : ℕ) (here : at < length words) where
       ∙ ap (λ ws. callOk (rest words at) && listOk 0 ws) next-is
 
   pub fits-here : callOk (rest words at) ≡ true → at + callLength (rest words at) ≤ length words
-  fits-here e =
-      let n : length (rest words at) ≡ length words - at = ap length (rest-is words at) ∙ length-drop at words in
-      omega (arith, ok-whole (rest words at) e, n, here)
+  fits-here e = omega (arith, ok-whole (rest words at) e, rest-length words at, here)
 
 pub calls-end : (words : List ℕ) (at : ℕ) → length words ≤ at → callsOf 0 (drop at words) ≡ []
 unfolding callsOf

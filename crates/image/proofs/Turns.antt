@@ -73,10 +73,10 @@ ended {words} {at} {stage} {t} r h = r .made ∙ walk-end words at stage t h
 abbrev pub rest : List ℕ → ℕ → List ℕ
 rest words at = take (length words - at) (drop at words)
 
-rest-is : (words : List ℕ) (at : ℕ) → rest words at ≡ drop at words
+pub rest-is : (words : List ℕ) (at : ℕ) → rest words at ≡ drop at words
 rest-is words at = take-all (length words - at) (drop at words) (rw length-drop (omega arith))
 
-rest-length : (words : List ℕ) (at : ℕ) → length (rest words at) ≡ length words - at
+pub rest-length : (words : List ℕ) (at : ℕ) → length (rest words at) ≡ length words - at
 rest-length words at = ap length (rest-is words at) ∙ length-drop at words
 
 -- the header of the record at a place, and its payload

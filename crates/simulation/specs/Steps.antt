@@ -53,7 +53,8 @@ pub record Level : Type 0 where
   pub tank : ℕ
   pub target : Float
 
--- when a control calls for a stop
+-- when a control calls for a stop. "Pressure controls, and level controls whose node is no tank, give no candidate": the former here, the latter by
+-- `levelTime`, which is MAX there
 abbrev pub triggerOf : ControlCondition → Trigger Level
 triggerOf (HighPressure n x) = untimed
 triggerOf (LowPressure n x) = untimed
@@ -84,10 +85,11 @@ tankCandidate (Junction j) s = MAX
 abbrev pub smallerTank : Project → State → ℕ → ℕ → ℕ
 smallerTank p s i smallest = min (tankCandidate (nodeAt p i .kind) (nodeStateAt s i)) smallest
 
--- "the smallest over all of them", zeros too
+-- "for tanks only after the smallest over all of them has been taken": zeros too
 unfoldable pub tankTime : Project → State → ℕ
 tankTime p s = through (p .counts .nodes) (smallerTank p s) MAX
 
+-- "Tank time is the tanks' candidate, level-control time a level control's"
 unfoldable pub momentOf : Project → State → Moment Level
 momentOf p s = record {
   tank = tankTime p s;
@@ -95,15 +97,16 @@ momentOf p s = record {
 }
 
 -- ---- the step
--- the length of a step asked on a state
+-- the length of a step asked on a state: by the clock's definition, which "caps it at the remainder" and gives 0 "at or past the duration"
 unfoldable pub lengthOf : Project → State → ℕ
 lengthOf p s = lengthAt (timesOf p) (triggersOf p) (momentOf p s) (s .clock .instant)
 
--- the tanks moved by a step's seconds, and the clock advanced; a step of 0 moves nothing
+-- the tanks moved by a step's seconds, and the clock advanced; "At or past the duration it gives 0, moving nothing"
 unfoldable pub movedBy : Project → State → ℕ → State
 movedBy p s length =
     let moved = updateTanks p s length in
     cond (eqb length 0) s (record { nodes = moved .nodes; links = moved .links; clock = advanced (s .clock) length })
 
+-- `next_hydraulic_timestep`: "the reference for a step"
 unfoldable pub nextHydraulicTimestep : Project → State → Stepped
 nextHydraulicTimestep p s = record { length = lengthOf p s; state = movedBy p s (lengthOf p s) }

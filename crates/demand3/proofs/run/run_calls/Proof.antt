@@ -4,9 +4,10 @@ use mathlib.Core.Path.{sym, ap, _∙_}
 use native.Mathlib.Omega.{arith}
 use denote.Ref.{now}
 use lib.ListN.{length}
+use Rattle.image.proofs.Turns.{rest}
 use Rattle.demand3.specs.Lists.{callsOf, countedAll}
 use Rattle.demand3.proofs.Counted.{Running, running, next-within, ran-more, ran-all}
-use Rattle.demand3.proofs.Lists.{rest, length-some}
+use Rattle.demand3.proofs.Lists.{length-some}
 use borrow.Author.Needs.{needs}
 use Rattle.demand3.proofs.run.run_calls.Statement.{statement}
 use Rattle.demand3.proofs.run.run_calls.Tie as tie

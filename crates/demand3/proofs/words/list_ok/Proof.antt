@@ -5,7 +5,8 @@ use native.Mathlib.Omega.{arith}
 use borrow.Author.Tests.{not-true, not-false}
 use denote.Ref.{now}
 use lib.ListN.{length}
-use Rattle.demand3.proofs.Lists.{Checked, checking, checked-bad, checked-more, checked-all, fits-here, rest, length-some}
+use Rattle.image.proofs.Turns.{rest}
+use Rattle.demand3.proofs.Lists.{Checked, checking, checked-bad, checked-more, checked-all, fits-here, length-some}
 use borrow.Author.Needs.{needs}
 use Rattle.demand3.proofs.words.list_ok.Statement.{statement}
 use Rattle.demand3.proofs.words.list_ok.Tie as tie
