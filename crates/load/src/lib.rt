@@ -1,18 +1,18 @@
 // A load: every link's flow, then every junction's head, and the tanks' net inflow.
 ghost use mathlib.Core.Path.{_≡_};
 ghost use mathlib.Core.Bool.{cond};
-ghost use Prim.Native.Nat.{_+_, _<_, _≤_};
+ghost use Prim.Native.Nat.{_+_, _<_};
 ghost use Rattle.model.specs.Nodes.{isJunction};
 ghost use Rattle.tables.specs.Fit.{TablesFit};
 ghost use Rattle.load.specs.Loads.{valueAt, valueCount, shapeOk, valuesOk, loadFault, loadFlows, loadedHead, takeLoad};
 ghost use Rattle.load.specs.Passes.{loadHeads, netInflows};
 use entries::word;
 use model::*;
+use node_turns::gained;
+use node_turns::lost;
 use number::from_words;
 use number::within;
 use state::empty_tanks;
-use state::gained;
-use state::lost;
 
 // Number k of a load.
 fn value_at(words: &[u32], k: usize) -> f64

@@ -5,23 +5,19 @@ use mathlib.Core.List.{List, [], _∷_, _++_}
 use lib.Dec.{eqb}
 use lib.Ieee.{Float}
 use Rattle.number.specs.Constants.{MAX}
-use Rattle.number.specs.Operators.{_⊖_}
 use Rattle.clock.specs.Steps.{advanced}
 use Rattle.clock.specs.Triggers.{Trigger, atTime, atClock, atLevel, untimed, Moment, lengthAt}
 use Rattle.clock.specs.declared.length.Times.{Times}
-use Rattle.tank.specs.Tanks.{timeToFillOrDrain}
 use Rattle.model.specs.Blank.{nodeAt, nodeStateAt, controlAt}
 use Rattle.model.specs.Loops.{through, allBelow}
 use Rattle.model.specs.Nodes.{isTank}
 use Rattle.model.specs.declared.control.ControlCondition.{ControlCondition}
 use Rattle.model.specs.declared.control.ControlCondition.the-variants.{HighPressure, LowPressure, HighLevel, LowLevel, Time, ClockTime}
-use Rattle.model.specs.declared.node.NodeType.{NodeType}
-use Rattle.model.specs.declared.node.NodeType.the-variants.{Reservoir, Tank, Junction}
 use Rattle.model.specs.declared.project.Project.{Project}
-use Rattle.model.specs.declared.state.NodeState.{NodeState}
 use Rattle.model.specs.declared.state.State.{State}
 use Rattle.control.specs.Controls.{levelTime}
 use Rattle.state.specs.Tanks.{updateTanks}
+use Rattle.node_turns.specs.Tanks.{tankCandidate}
 use Rattle.simulation.specs.declared.step.Stepped.{Stepped}
 
 -- ---- the options
@@ -76,12 +72,6 @@ unfoldable pub triggersOf : Project → List (Trigger Level)
 triggersOf p = listed (p .counts .controls) (triggerAt p)
 
 -- ---- the moment of a state
--- a tank's candidate; other nodes have none
-abbrev pub tankCandidate : NodeType → NodeState → ℕ
-tankCandidate (Reservoir r) s = MAX
-tankCandidate (Tank t) s = timeToFillOrDrain t (record { 0 = s .head ⊖ t .elevation .0 }) (record { 0 = s .demand })
-tankCandidate (Junction j) s = MAX
-
 abbrev pub smallerTank : Project → State → ℕ → ℕ → ℕ
 smallerTank p s i smallest = min (tankCandidate (nodeAt p i .kind) (nodeStateAt s i)) smallest
 

@@ -3,16 +3,15 @@ ghost use mathlib.Core.Path.{_≡_};
 ghost use Prim.Native.Nat.{min};
 ghost use Rattle.clock.specs.Triggers.{controlTime};
 ghost use Rattle.tables.specs.Fit.{TablesFit};
-ghost use Rattle.simulation.specs.Steps.{noTanks, onFastPath, timesOf, triggersOf, tankCandidate, tankTime, momentOf};
+ghost use Rattle.simulation.specs.Steps.{noTanks, onFastPath, timesOf, triggersOf, tankTime, momentOf};
 use clock::Times;
 use clock::clock_time;
 use clock::smaller_positive;
 use control::candidate;
 use control::watched;
 use model::*;
+use node_turns::tank_candidate;
 use number::constants::MAX;
-use tank::CubicFeetPerSecond;
-use tank::Feet;
 
 fn no_tanks(p: Project) -> bool
     requires { ⌜ TablesFit p ⌝ }
@@ -57,23 +56,6 @@ pub fn times_of(p: Project) -> Times
         pattern: o.pattern,
         start_clock: o.start_clock,
         fast: on_fast_path(p),
-    }
-}
-
-// The seconds until a tank is full or empty; MAX where the node is no tank.
-pub fn tank_candidate(node: Node, state: NodeState) -> u64
-    ensures { λ r. ⌜ r ≡ tankCandidate (node .kind) state ⌝ }
-{
-    let kind = node.kind;
-    let head = state.head;
-    let demand = state.demand;
-    match kind {
-        NodeType::Reservoir(_) => MAX,
-        NodeType::Tank(t) => {
-            let level = Feet(head - t.elevation.0);
-            t.time_to_fill_or_drain(level, CubicFeetPerSecond(demand))
-        }
-        NodeType::Junction(_) => MAX,
     }
 }
 

@@ -3,6 +3,5 @@
 mod candidates;
 mod step;
 
-pub use candidates::tank_candidate;
 pub use step::Stepped;
 pub use step::next_hydraulic_timestep;

@@ -2,7 +2,6 @@
 mod closing;
 mod pressure;
 
-pub use closing::closed;
 pub use closing::update_tank_links;
 pub use pressure::Pressed;
 pub use pressure::apply_pressure_controls;

@@ -33,13 +33,20 @@ use Rattle.model.proofs.Keeps.{keeps, set-keeps}
 use Rattle.control.specs.Controls.{watched, isActive, activateSetting, activateStatus, activate}
 use Rattle.tables.specs.Fit.{NodeFit, LinkFit, StatusActionFit, SettingActionFit, ControlFit, TablesFit}
 use Rattle.judge.specs.Fit.{NodeStateFit, LinkStateFit, StateFit}
-use Rattle.state.specs.Start.{startNode, startLink, startNodes, startLinks, newWithInitialValues}
-use Rattle.state.specs.Patterns.{multiplierOf, patterned, applyPatterns}
-use Rattle.state.specs.Controls.{passedOver, controlled, applyControls}
-use Rattle.state.specs.Tanks.{moved, updateTanks}
+use Rattle.node_turns.specs.Start.{startNode}
+use Rattle.link_turns.specs.Start.{startLink}
+use Rattle.state.specs.Start.{startNodes, startLinks, newWithInitialValues}
+use Rattle.state.specs.Patterns.{multiplierOf, applyPatterns}
+use Rattle.node_patterns.specs.Patterns.{patterned}
+use Rattle.link_turns.specs.Controls.{passedOver, controlled}
+use Rattle.state.specs.Controls.{applyControls}
+use Rattle.node_turns.specs.Tanks.{moved}
+use Rattle.state.specs.Tanks.{updateTanks}
 use Rattle.load.specs.Loads.{valueAt, valuesBefore, loadFault, loadFlows, loadedHead, netInflow, loadedNode, takeLoad}
-use Rattle.solver.specs.Closing.{closesInto, closesOutOf, closed, closeLinks, tankInflow, summed, updateTankLinks}
-use Rattle.solver.specs.Pressure.{presses, press, applyPressureControls}
+use Rattle.link_turns.specs.Closing.{closesInto, closesOutOf, closed}
+use Rattle.solver.specs.Closing.{closeLinks, tankInflow, summed, updateTankLinks}
+use Rattle.link_turns.specs.Pressure.{presses, press}
+use Rattle.solver.specs.Pressure.{applyPressureControls}
 use Rattle.solver.specs.declared.pressure.Pressed.{Pressed}
 use Rattle.sound.proofs.Numbers.{zero-within, initial-head-within, initial-flow-within, initial-setting-within, multiplier-within, pattern-demand-within, pattern-head-within}
 use Rattle.sound.proofs.Sums.{loaded-flow-within, loaded-head-within, net-inflow-within, tank-inflow-within}

@@ -29,7 +29,8 @@ use Rattle.model.specs.declared.pattern.PatternIndex.{PatternIndex}
 use Rattle.model.specs.declared.pattern.PatternIndex.the-variants.{NoPattern, PatternAt}
 use Rattle.model.specs.declared.project.Project.{Project}
 use Rattle.tables.specs.Fit.{PatternIndexFit, DemandFit, DemandsFit, NodeFit, LinkTypeFit, LinkFit, TablesFit}
-use Rattle.state.specs.Patterns.{multiplierOf, orDefault, demandOf, sumOf, junctionDemand, reservoirHead, patternHead, patternDemand}
+use Rattle.state.specs.Patterns.{multiplierOf}
+use Rattle.node_patterns.specs.Patterns.{orDefault, demandOf, sumOf, junctionDemand, reservoirHead, patternHead, patternDemand}
 
 pub zero-within : (n : ℕ) → Within (decimal 0 0) n
 unfolding decimal

@@ -1,22 +1,11 @@
 -- Document 01, module 7: `new_with_initial_values`.
 use Prim.Native.Nat.{ℕ}
-use Rattle.number.specs.Constants.{decimal}
 use Rattle.model.specs.Blank.{blankState, nodeAt, linkAt, withNode, withLink}
-use Rattle.model.specs.Links.{initialFlow, initialSetting}
 use Rattle.model.specs.Loops.{through}
-use Rattle.model.specs.Nodes.{initialHead}
-use Rattle.model.specs.declared.link.Link.{Link}
-use Rattle.model.specs.declared.node.Node.{Node}
 use Rattle.model.specs.declared.project.Project.{Project}
-use Rattle.model.specs.declared.state.LinkState.{LinkState}
-use Rattle.model.specs.declared.state.NodeState.{NodeState}
 use Rattle.model.specs.declared.state.State.{State}
-
-abbrev pub startNode : Node → NodeState
-startNode n = record { head = initialHead n; demand = decimal 0 0; «demand_flow» = decimal 0 0 }
-
-abbrev pub startLink : Link → LinkState
-startLink l = record { flow = initialFlow l; status = l .«initial_status»; setting = initialSetting l }
+use Rattle.node_turns.specs.Start.{startNode}
+use Rattle.link_turns.specs.Start.{startLink}
 
 abbrev pub nodeStarted : Project → ℕ → State → State
 nodeStarted p i s = withNode s i (startNode (nodeAt p i))

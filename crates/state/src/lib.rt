@@ -7,13 +7,7 @@ mod start;
 mod tanks;
 
 pub use controls::apply_controls;
-pub use controls::controlled;
 pub use inflow::empty_tanks;
-pub use inflow::gained;
-pub use inflow::lost;
 pub use patterns::apply_patterns;
-pub use patterns::patterned;
-pub use patterns::period_table;
 pub use start::new_with_initial_values;
-pub use tanks::moved;
 pub use tanks::update_tanks;

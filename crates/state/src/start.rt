@@ -1,28 +1,10 @@
 // `new_with_initial_values`.
 ghost use mathlib.Core.Path.{_≡_};
 ghost use Rattle.tables.specs.Fit.{TablesFit};
-ghost use Rattle.state.specs.Start.{startNode, startLink, startNodes, startLinks, newWithInitialValues};
+ghost use Rattle.state.specs.Start.{startNodes, startLinks, newWithInitialValues};
+use link_turns::start_link;
 use model::*;
-
-fn start_node(n: Node) -> NodeState
-    ensures { λ r. ⌜ r ≡ startNode n ⌝ }
-{
-    NodeState {
-        head: n.initial_head(),
-        demand: 0.0,
-        demand_flow: 0.0,
-    }
-}
-
-fn start_link(l: Link) -> LinkState
-    ensures { λ r. ⌜ r ≡ startLink l ⌝ }
-{
-    LinkState {
-        flow: l.initial_flow(),
-        status: l.initial_status,
-        setting: l.initial_setting(),
-    }
-}
+use node_turns::start_node;
 
 fn start_nodes(p: Project, s: State) -> State
     requires { ⌜ TablesFit p ⌝ }

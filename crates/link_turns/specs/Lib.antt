@@ -1,0 +1,4 @@
+pub mod Start
+pub mod Controls
+pub mod Closing
+pub mod Pressure
