@@ -24,7 +24,8 @@ use Rattle.calls.specs.declared.Called.{Called}
 use Rattle.calls.specs.declared.PremiseAnswer.{PremiseAnswer}
 use Rattle.calls.specs.declared.PremiseAnswer.the-variants.{Truth, Refused}
 use Rattle.calls.specs.declared.PressureCalled.{PressureCalled}
-use Rattle.demand3.specs.Calls.{Call, patterns, controls, load, tankLinks, pressure, premise, step, isStep, asked, outcome}
+use Rattle.call_words.specs.Calls.{Call, patterns, controls, load, tankLinks, pressure, premise, step, isStep}
+use Rattle.demand3.specs.Calls.{asked, outcome}
 
 -- ---- the functions behind the calls
 patterns-quiet : (p : Project) (s : State) → applyPatterns p s .clock ≡ s .clock

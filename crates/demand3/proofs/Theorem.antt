@@ -12,7 +12,7 @@ use Rattle.image.specs.Image.{decode}
 use Rattle.acceptance.proofs.Accepted.{accepted}
 use Rattle.simulation.specs.Steps.{timesOf, triggersOf}
 use Rattle.calls.specs.Calls.{start}
-use Rattle.demand3.specs.Calls.{Call}
+use Rattle.call_words.specs.Calls.{Call}
 use Rattle.demand3.specs.Machine.{machine, Demand3}
 use Rattle.demand3.proofs.Lawful.{accepted-times, lawful, start-accepted, started}
 

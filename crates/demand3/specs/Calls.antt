@@ -1,33 +1,13 @@
--- "Take any list of these calls, refused ones included, from an accepted project's start: patterns, controls, loads, tank-link closing, pressure pass,
--- premises, steps."
-use Prim.Native.Nat.{ℕ}
-use mathlib.Core.Bool.{Bool, true, false}
-use mathlib.Core.List.{List}
+-- What a call of a list answers, and the state that it leaves.
+use mathlib.Core.Bool.{false}
 use Rattle.model.specs.declared.project.Project.{Project}
 use Rattle.model.specs.declared.state.State.{State}
 use Rattle.calls.specs.Calls as calls
 use Rattle.calls.specs.declared.Called.{Called}
 use Rattle.calls.specs.declared.PremiseAnswer.{PremiseAnswer}
 use Rattle.calls.specs.declared.PremiseAnswer.the-variants.{Truth, Refused}
-use Rattle.demand3.specs.declared.outcome.Outcome.{Outcome}
-
-pub data Call : Type 0 where
-  patterns : Call
-  controls : Call
-  load : List ℕ → Call
-  tankLinks : Call
-  pressure : Call
-  premise : ℕ → Call
-  step : Call
-
-abbrev pub isStep : Call → Bool
-isStep patterns = false
-isStep controls = false
-isStep (load words) = false
-isStep tankLinks = false
-isStep pressure = false
-isStep (premise i) = false
-isStep step = true
+use Rattle.call_words.specs.Calls.{Call, patterns, controls, load, tankLinks, pressure, premise, step}
+use Rattle.demand3.specs.declared.Outcome.{Outcome}
 
 -- the number and the state, of a call that answers no more
 abbrev pub called : Called → Outcome

@@ -20,7 +20,7 @@ use Rattle.simulation.specs.Steps.{timesOf, triggersOf, momentOf}
 use Rattle.calls.specs.Calls.{patterns, controls, load, tankLinks, step}
 use Rattle.sound.proofs.Theorem.{patterns-in-order, controls-in-order, load-in-order, tank-links-in-order}
 use Rattle.sound.proofs.Step.{step-in-order}
-use Rattle.demand3.specs.Calls as asking
+use Rattle.call_words.specs.Calls as asking
 use Rattle.demand3.specs.Calls.{outcome}
 use Rattle.demand3.proofs.Quiet.{quiet}
 use Rattle.demand3.proofs.Lawful.{lawful, accepted-times}

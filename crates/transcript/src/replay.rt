@@ -26,7 +26,7 @@ fn refuse(to: i32, out: &mut [u8], number: u32) {
 // Runs the call at the start of a table, prints its line, and answers the state after it.
 fn replay_call(to: i32, p: Project, s: State, call: &[u32], out: &mut [u8]) -> State {
     let code = entries::word(call, 0);
-    let o = demand3::call(p, s, call);
+    let o = run_call::call(p, s, call);
     let at = put_answer(out, code, o);
     let state = o.state;
     let n = put_state(out, at, p.counts, state);
