@@ -1,4 +1,4 @@
-// A load out of the bytes of the driver's input. The functions demand a state in order, as the turn does that calls them.
+// A load out of the bytes of the driver's input. The functions stand behind the judgement of tables and state, as the turns do that call them.
 ghost use mathlib.Core.Path.{_≡_};
 ghost use mathlib.Core.Bool.{true};
 ghost use Prim.Native.Nat.{_≤_};

@@ -1,4 +1,4 @@
-// The count of the image's words, and the image.
+// What the driver's input begins with: the count of the image's words, and the image.
 ghost use mathlib.Core.Path.{_≡_};
 ghost use Prim.Native.Nat.{_/_, min, _≤_};
 ghost use lib.ListN.{length};

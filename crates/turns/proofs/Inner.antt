@@ -1,4 +1,4 @@
--- On a state in order each public call is the function behind it, so that the loop may leave out the judgement. Assumes nothing.
+-- On a state in order each public call is the function behind it, so that a turn may leave out the judgement. Assumes nothing.
 use mathlib.Core.Path.{_≡_, ap, _∙_}
 use mathlib.Core.Bool.{true}
 use Rattle.model.specs.declared.project.Project.{Project}
