@@ -1,6 +1,6 @@
 // The driver between two descriptors: it reads an image and loads, and writes the listing. This crate only moves bytes; what they are is put
-// together by the crate session. No contract can say what is read or written: the law `image-accepted` of session says that the chunks'
-// texts, written one after the other, are what document 01 asks for.
+// together by the crates opening and session. No contract can say what is read or written: the law `image-accepted` of printed says that the
+// chunks' texts, written one after the other, are what document 01 asks for.
 use model::Project;
 ghost use Prim.Native.Nat.{_+_, _-_, _≤_};
 ghost use mathlib.Core.Path.{_≡_};
@@ -116,7 +116,7 @@ fn drive_slices(input: &mut [u8], out: &mut [u8], from: i32, to: i32)
     requires { ⌜ 22 ≤ length (now out) ⌝ }
 {
     let n = io::read_full(from, &mut input[..4]);
-    let count = session::image_words(&input[..n]);
+    let count = opening::image_words(&input[..n]);
     if count == 0 {
         refuse(1, out, to);
         return;
@@ -127,7 +127,7 @@ fn drive_slices(input: &mut [u8], out: &mut [u8], from: i32, to: i32)
         refuse(1, out, to);
         return;
     }
-    let decoded = session::open(&input[..size]);
+    let decoded = opening::open(&input[..size]);
     let fault = decoded.fault;
     let project = decoded.project;
     if fault == 0 {

@@ -18,9 +18,12 @@ use Rattle.model.specs.declared.project.Project.{Project}
 use Rattle.model.specs.declared.state.State.{State}
 use Rattle.judge.specs.Judgement.{inOrder}
 use Rattle.sound.proofs.Theorem.{state-of}
-use Rattle.session.specs.declared.turns.Turned.{Turned}
-use Rattle.session.specs.Turns.{Turn, turn, turns, loadBytes}
-use Rattle.session.specs.Chunks.{TurnedAs, wantsInput, canTurn, Ran}
+use Rattle.loads.specs.Sizes.{loadBytes}
+use Rattle.turns.specs.declared.Turned.{Turned}
+use Rattle.turns.specs.Turns.{Turn, turn}
+use Rattle.turns.specs.Turned.{TurnedAs}
+use Rattle.session.specs.Runs.{turns}
+use Rattle.session.specs.Chunks.{wantsInput, canTurn, Ran}
 use Rattle.session.proofs.Turning.{Known, known, turn-more, turn-done}
 
 -- what a turn may count on

@@ -1,7 +1,2 @@
-pub mod Inner
 pub mod Turning
-pub mod Cases
 pub mod Going
-pub mod Counting
-pub mod Whole
-pub mod Tally

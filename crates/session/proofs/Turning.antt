@@ -18,14 +18,16 @@ use Rattle.model.specs.declared.state.State.{State}
 use Rattle.judge.specs.Judgement.{inOrder}
 use Rattle.simulation.specs.Steps.{timesOf, triggersOf, momentOf}
 use Rattle.calls.specs.Calls.{patterns, controls, load, tankLinks, step}
-use Rattle.sound.proofs.Theorem.{patterns-in-order, controls-in-order, load-in-order, tank-links-in-order}
+use Rattle.sound.proofs.Theorem.{load-in-order, tank-links-in-order}
 use Rattle.sound.proofs.Step.{step-in-order}
 use Rattle.call_words.specs.Calls as asking
 use Rattle.demand3.specs.Calls.{outcome}
 use Rattle.demand3.proofs.Quiet.{quiet}
 use Rattle.demand3.proofs.Lawful.{lawful, accepted-times}
-use Rattle.session.specs.Turns.{Turn, loadWords, loadBytes, prepared, stepTurn, endTurn, loadTurn, inputTurn, turn}
-use Rattle.session.proofs.Inner.{fit}
+use Rattle.loads.specs.Sizes.{loadWords, loadBytes}
+use Rattle.loads.proofs.Inner.{fit}
+use Rattle.turns.specs.Turns.{Turn, prepared, stepTurn, endTurn, loadTurn, inputTurn, turn}
+use Rattle.turns.proofs.Inner.{prepared-in-order}
 
 -- ---- the calls keep the clock, all but the step
 pub prepared-clock : (p : Project) (s : State) → prepared p s .clock ≡ s .clock
@@ -39,10 +41,6 @@ load-clock p words s = quiet p (asking.load words) s refl
 closed-clock : (p : Project) (s : State) → tankLinks p s .state .clock ≡ s .clock
 unfolding outcome
 closed-clock p s = quiet p asking.tankLinks s refl
-
-pub prepared-in-order : (p : Project) (s : State) → inOrder p s ≡ true → inOrder p (prepared p s) ≡ true
-unfolding prepared
-prepared-in-order p s e = controls-in-order p (patterns p s .state) (patterns-in-order p s e)
 
 -- a step before the duration moves the instant, and is counted
 step-moves : (p : Project) (s : State) → inOrder p s ≡ true → s .clock .instant < p .options .duration

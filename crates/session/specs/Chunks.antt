@@ -1,6 +1,6 @@
--- What the functions of the crate promise of a turn and of a run of turns.
+-- What the functions of the crate promise of a run of turns.
 -- Assumes nothing.
-use Prim.Native.Nat.{ℕ, _+_, _-_, _≤_, _<_}
+use Prim.Native.Nat.{ℕ, _-_, _≤_, _<_}
 use mathlib.Core.Path.{_≡_}
 use mathlib.Core.Bool.{Bool, true, false, cond}
 use mathlib.Core.Logic.{_⊎_}
@@ -8,22 +8,13 @@ use mathlib.Core.List.{List, [], _++_}
 use lib.Dec.{ltb, leb, eqb}
 use lib.ListN.{length, take, drop}
 use Rattle.listing.specs.Text.{pasted}
-use Rattle.listing.specs.Listing.{Line, lineText, textOf}
+use Rattle.listing.specs.Listing.{Line, textOf}
 use Rattle.model.specs.declared.project.Project.{Project}
 use Rattle.model.specs.declared.state.State.{State}
 use Rattle.judge.specs.Judgement.{inOrder}
-use Rattle.session.specs.declared.turns.Turned.{Turned}
-use Rattle.session.specs.declared.chunk.Chunk.{Chunk}
-use Rattle.session.specs.Turns.{Turn, turns, loadBytes}
-
--- r is the turn t, its text put into the buffer from `at` on
-pub record TurnedAs (t : Turn) (at : ℕ) (before after : List ℕ) (r : Turned) : Type 0 where
-  pub state : r .state ≡ t .state
-  pub taken : r .taken ≡ t .taken
-  pub last : r .last ≡ t .last
-  pub text : after ≡ pasted before at (lineText (t .line))
-  pub place : r .at ≡ at + length (lineText (t .line))
-  pub room : r .at ≤ length before
+use Rattle.loads.specs.Sizes.{loadBytes}
+use Rattle.session.specs.declared.Chunk.{Chunk}
+use Rattle.session.specs.Runs.{turns}
 
 -- how many bytes a turn waits for, a load's where fewer are left: 0 where no more come, and at the duration, where none is read
 abbrev pub wantsInput : ℕ → ℕ → Bool → ℕ → ℕ → ℕ

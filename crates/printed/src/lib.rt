@@ -1,0 +1,2 @@
+// No code: what the driver prints for a whole input (specs/Printed.antt), put together from its chunks (proofs/Whole.antt); the count in its
+// last line is the number of its steps (proofs/Tally.antt).
