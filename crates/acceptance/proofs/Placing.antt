@@ -33,9 +33,9 @@ use Rattle.entries.specs.Words.{number}
 use Rattle.entries.specs.declared.entry.Entry.{Entry}
 use Rattle.entries.specs.declared.entry.Entry.the-variants as entries
 use Rattle.pattern_entries.specs.Entries as payloads
-use Rattle.image.specs.Placed.{multiplierPlaced, multipliersPlaced, placed}
-use Rattle.image.specs.Image.{faultOf}
-use Rattle.image.proofs.Records.{Taken}
+use Rattle.framing.specs.Framing.{faultOf}
+use Rattle.framing.proofs.Records.{Taken}
+use Rattle.placing.specs.Placed.{multiplierPlaced, multipliersPlaced, placed}
 
 -- the tables so far: within the capacities, and every entry passes
 pub record Kept (t : Project) : Type 0 where
