@@ -26,8 +26,9 @@ use Rattle.node_records.specs.Records.{nodeOk}
 use Rattle.link_records.specs.Records.{linkOk}
 use Rattle.control_records.specs.Records.{controlOk}
 use Rattle.premise_records.specs.Records.{premiseOk}
-use Rattle.tables.specs.Tables.{Few, multiplierOk, multipliersOk, patternOk, patternOkAt, patternsOk, nodeFits, nodeFitsAt, nodesOk, linkFits, linkFitsAt, linksOk, controlFits, controlFitsAt, controlsOk, premiseFits, premiseFitsAt, premisesOk}
-use Rattle.tables.proofs.Tests.{and-grow}
+use Rattle.entry_fits.specs.Fits.{multiplierOk, multipliersOk, patternOk, nodeFits, linkFits, controlFits, premiseFits}
+use Rattle.entry_fits.proofs.Tests.{and-grow}
+use Rattle.tables.specs.Tables.{Few, patternOkAt, patternsOk, nodeFitsAt, nodesOk, linkFitsAt, linksOk, controlFitsAt, controlsOk, premiseFitsAt, premisesOk}
 use Rattle.tables.proofs.Grown.{node-indices-grow, link-indices-grow, control-indices-grow, premise-indices-grow, all-below-grows, all-below-set, pattern-kept}
 use Rattle.entries.specs.Words.{number}
 use Rattle.entries.specs.declared.entry.Entry.{Entry}

@@ -1,8 +1,8 @@
--- `tables::control_fits` meets its contract. By what the two calls ensure. Assumes nothing.
-use Rattle.tables.specs.Tables.{controlFits}
+-- `entry_fits::control_fits` meets its contract. By what the two calls ensure. Assumes nothing.
+use Rattle.entry_fits.specs.Fits.{controlFits}
 use borrow.Author.Needs.{needs}
-use Rattle.tables.proofs.control_fits.Statement.{statement}
-use Rattle.tables.proofs.control_fits.Tie as tie
+use Rattle.entry_fits.proofs.control_fits.Statement.{statement}
+use Rattle.entry_fits.proofs.control_fits.Tie as tie
 
 control-ok-requires : tie.Need-control-ok-requires
 control-ok-requires c κs = search needs

@@ -1,8 +1,8 @@
--- `tables::premise_fits` meets its contract. By what the two calls ensure. Assumes nothing.
-use Rattle.tables.specs.Tables.{premiseFits}
+-- `entry_fits::premise_fits` meets its contract. By what the two calls ensure. Assumes nothing.
+use Rattle.entry_fits.specs.Fits.{premiseFits}
 use borrow.Author.Needs.{needs}
-use Rattle.tables.proofs.premise_fits.Statement.{statement}
-use Rattle.tables.proofs.premise_fits.Tie as tie
+use Rattle.entry_fits.proofs.premise_fits.Statement.{statement}
+use Rattle.entry_fits.proofs.premise_fits.Tie as tie
 
 premise-ok-requires : tie.Need-premise-ok-requires
 premise-ok-requires c κs = search needs

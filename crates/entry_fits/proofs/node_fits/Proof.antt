@@ -1,8 +1,8 @@
--- `tables::node_fits` meets its contract. By what the two calls ensure. Assumes nothing.
-use Rattle.tables.specs.Tables.{nodeFits}
+-- `entry_fits::node_fits` meets its contract. By what the two calls ensure. Assumes nothing.
+use Rattle.entry_fits.specs.Fits.{nodeFits}
 use borrow.Author.Needs.{needs}
-use Rattle.tables.proofs.node_fits.Statement.{statement}
-use Rattle.tables.proofs.node_fits.Tie as tie
+use Rattle.entry_fits.proofs.node_fits.Statement.{statement}
+use Rattle.entry_fits.proofs.node_fits.Tie as tie
 
 node-ok-requires : tie.Need-node-ok-requires
 node-ok-requires c κs = search needs

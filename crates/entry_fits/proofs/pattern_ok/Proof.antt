@@ -1,10 +1,10 @@
--- `tables::pattern_ok` meets its contract. A length out of range fails the conjunction; one in range leaves it to the multipliers. Assumes nothing.
+-- `entry_fits::pattern_ok` meets its contract. A length out of range fails the conjunction; one in range leaves it to the multipliers. Assumes nothing.
 use mathlib.Core.Bool.{and-false}
 use borrow.Author.Tests.{lt-leb, le-leb}
-use Rattle.tables.specs.Tables.{patternOk}
+use Rattle.entry_fits.specs.Fits.{patternOk}
 use borrow.Author.Needs.{needs}
-use Rattle.tables.proofs.pattern_ok.Statement.{statement}
-use Rattle.tables.proofs.pattern_ok.Tie as tie
+use Rattle.entry_fits.proofs.pattern_ok.Statement.{statement}
+use Rattle.entry_fits.proofs.pattern_ok.Tie as tie
 
 returns : tie.Need-returns
 unfolding patternOk

@@ -1,12 +1,12 @@
--- `tables::multipliers_ok` meets its contract. The invariant: the test holds of every entry passed, so one that fails decides. Assumes nothing.
+-- `entry_fits::multipliers_ok` meets its contract. The invariant: the test holds of every entry passed, so one that fails decides. Assumes nothing.
 use Prim.Native.Nat.{_-_}
 use mathlib.Core.Path.{refl, sym}
 use Rattle.model.proofs.Loops.{Held, held-begun, held-turned, held-ended, held-failed}
-use Rattle.tables.proofs.Tests.{failed, passed}
-use Rattle.tables.specs.Tables.{multiplierOk, multipliersOk}
+use Rattle.entry_fits.proofs.Tests.{failed, passed}
+use Rattle.entry_fits.specs.Fits.{multiplierOk, multipliersOk}
 use borrow.Author.Needs.{needs}
-use Rattle.tables.proofs.multipliers_ok.Statement.{statement}
-use Rattle.tables.proofs.multipliers_ok.Tie as tie
+use Rattle.entry_fits.proofs.multipliers_ok.Statement.{statement}
+use Rattle.entry_fits.proofs.multipliers_ok.Tie as tie
 
 abbrev Inv-loop : tie.InvT-loop
 Inv-loop multipliers k n i₀ i = Held n (multiplierOk multipliers k) i

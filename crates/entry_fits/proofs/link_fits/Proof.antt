@@ -1,8 +1,8 @@
--- `tables::link_fits` meets its contract. By what the two calls ensure. Assumes nothing.
-use Rattle.tables.specs.Tables.{linkFits}
+-- `entry_fits::link_fits` meets its contract. By what the two calls ensure. Assumes nothing.
+use Rattle.entry_fits.specs.Fits.{linkFits}
 use borrow.Author.Needs.{needs}
-use Rattle.tables.proofs.link_fits.Statement.{statement}
-use Rattle.tables.proofs.link_fits.Tie as tie
+use Rattle.entry_fits.proofs.link_fits.Statement.{statement}
+use Rattle.entry_fits.proofs.link_fits.Tie as tie
 
 link-ok-requires : tie.Need-link-ok-requires
 link-ok-requires c κs = search needs
