@@ -16,10 +16,11 @@ use Rattle.records.specs.Records.{optionsOk}
 use Rattle.tables.specs.Tables.{tablesOk}
 use Rattle.tables.specs.Fit.{TablesFit}
 use Rattle.tables.proofs.Fits.{counts-of-few, tables-fit}
-use Rattle.image.specs.Placed.{placed}
-use Rattle.image.specs.Image.{kindOf, sizeOf, stageOf, stageOk, recordOf, payload, faultOf, refused, finished, walk, decode}
+use Rattle.framing.specs.Framing.{kindOf, sizeOf, stageOf, stageOk, recordOf, payload, faultOf}
+use Rattle.framing.proofs.Records.{record-header, header-stage, record-taken}
+use Rattle.placing.specs.Placed.{placed}
+use Rattle.image.specs.Image.{refused, finished, walk, decode}
 use Rattle.image.specs.declared.walk.Decoded.{Decoded}
-use Rattle.image.proofs.Records.{record-header, header-stage, record-taken}
 use Rattle.acceptance.proofs.Placing.{Kept, empty-kept, placed-kept, options-kept}
 
 -- where there is no fault, the tables pass

@@ -26,16 +26,17 @@ use Rattle.node_records.specs.Records.{nodeOk}
 use Rattle.link_records.specs.Records.{linkOk}
 use Rattle.control_records.specs.Records.{controlOk}
 use Rattle.premise_records.specs.Records.{premiseOk}
-use Rattle.tables.specs.Tables.{Few, multiplierOk, multipliersOk, patternOk, patternOkAt, patternsOk, nodeFits, nodeFitsAt, nodesOk, linkFits, linkFitsAt, linksOk, controlFits, controlFitsAt, controlsOk, premiseFits, premiseFitsAt, premisesOk}
-use Rattle.tables.proofs.Tests.{and-grow}
+use Rattle.entry_fits.specs.Fits.{multiplierOk, multipliersOk, patternOk, nodeFits, linkFits, controlFits, premiseFits}
+use Rattle.entry_fits.proofs.Tests.{and-grow}
+use Rattle.tables.specs.Tables.{Few, patternOkAt, patternsOk, nodeFitsAt, nodesOk, linkFitsAt, linksOk, controlFitsAt, controlsOk, premiseFitsAt, premisesOk}
 use Rattle.tables.proofs.Grown.{node-indices-grow, link-indices-grow, control-indices-grow, premise-indices-grow, all-below-grows, all-below-set, pattern-kept}
 use Rattle.entries.specs.Words.{number}
 use Rattle.entries.specs.declared.entry.Entry.{Entry}
 use Rattle.entries.specs.declared.entry.Entry.the-variants as entries
 use Rattle.pattern_entries.specs.Entries as payloads
-use Rattle.image.specs.Placed.{multiplierPlaced, multipliersPlaced, placed}
-use Rattle.image.specs.Image.{faultOf}
-use Rattle.image.proofs.Records.{Taken}
+use Rattle.framing.specs.Framing.{faultOf}
+use Rattle.framing.proofs.Records.{Taken}
+use Rattle.placing.specs.Placed.{multiplierPlaced, multipliersPlaced, placed}
 
 -- the tables so far: within the capacities, and every entry passes
 pub record Kept (t : Project) : Type 0 where

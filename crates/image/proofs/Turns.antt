@@ -10,9 +10,11 @@ use lib.Seq.{drop-drop, take-all}
 use Rattle.model.specs.Blank.{emptyProject}
 use Rattle.model.specs.declared.project.Project.{Project}
 use Rattle.entries.specs.declared.entry.Entry.{Entry}
-use Rattle.image.specs.Placed.{placed, Room}
-use Rattle.image.specs.Image.{kindOf, sizeOf, stageOf, recordOf, payload, faultOf, refused, finished, walk, decode}
-use Rattle.image.proofs.Records.{part-is, record-fits, record-room}
+use Rattle.framing.specs.Framing.{kindOf, sizeOf, stageOf, recordOf, payload, faultOf}
+use Rattle.framing.proofs.Records.{part-is, record-fits}
+use Rattle.placing.specs.Placed.{placed, Room}
+use Rattle.image.specs.Image.{refused, finished, walk, decode}
+use Rattle.image.proofs.Room.{record-room}
 
 -- ---- the whole image
 pub decode-none : (ws : List ℕ) → length ws < 1 → decode ws ≡ refused 1

@@ -1,11 +1,11 @@
 // The walk over the words.
 ghost use mathlib.Core.Path.{_≡_};
 ghost use Rattle.image.specs.Image.{refused, finished, decode};
-use crate::framing::fault_of;
-use crate::framing::record;
-use crate::framing::stage_of;
-use crate::place::place;
+use framing::fault_of;
+use framing::record;
+use framing::stage_of;
 use model::Project;
+use placing::place;
 use records::pattern_index_ok;
 
 // The number of the first fault, 0 where there is none, and the tables.

@@ -50,9 +50,10 @@ use Rattle.node_records.specs.Records.{tankOk, demandOk, demandsOk, nodeOk, dem
 use Rattle.link_records.specs.Records.{linkTypeOk, linkOk, linkIndicesOk}
 use Rattle.control_records.specs.Records.{conditionOk, statusActionOk, settingActionOk, controlOk, conditionIndexOk, controlIndicesOk}
 use Rattle.premise_records.specs.Records.{valueOk, premiseOk, premiseIndicesOk}
-use Rattle.tables.specs.Tables.{Few, countsOk, multiplierOk, multipliersOk, patternOk, patternOkAt, patternsOk, nodeFits, nodeFitsAt, nodesOk, linkFits, linkFitsAt, linksOk, controlFits, controlFitsAt, controlsOk, premiseFits, premiseFitsAt, premisesOk, tablesOk}
+use Rattle.entry_fits.specs.Fits.{countsOk, multiplierOk, multipliersOk, patternOk, nodeFits, linkFits, controlFits, premiseFits}
+use Rattle.tables.specs.Tables.{Few, patternOkAt, patternsOk, nodeFitsAt, nodesOk, linkFitsAt, linksOk, controlFitsAt, controlsOk, premiseFitsAt, premisesOk, tablesOk}
 use Rattle.tables.specs.Fit.{OptionsFit, PatternIndexFit, PatternFit, DemandFit, DemandsFit, NodeFit, LinkTypeFit, LinkFit, ConditionFit, StatusActionFit, SettingActionFit, ControlFit, TargetFit, ValueFit, PremiseFit, TablesFit}
-use Rattle.tables.proofs.Tests.{each}
+use Rattle.entry_fits.proofs.Tests.{each}
 
 -- ---- counts
 pub few-of-counts : (c : Counts) → countsOk c ≡ true → Few c

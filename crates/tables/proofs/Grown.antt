@@ -29,8 +29,8 @@ use Rattle.node_records.specs.Records.{demandIndexOk, demandsIndicesOk, nodeInd
 use Rattle.link_records.specs.Records.{linkIndicesOk}
 use Rattle.control_records.specs.Records.{conditionIndexOk, controlIndicesOk}
 use Rattle.premise_records.specs.Records.{premiseIndicesOk}
-use Rattle.tables.specs.Tables.{multiplierOk, multipliersOk, patternOk}
-use Rattle.tables.proofs.Tests.{and-grow}
+use Rattle.entry_fits.specs.Fits.{multiplierOk, multipliersOk, patternOk}
+use Rattle.entry_fits.proofs.Tests.{and-grow}
 
 -- ---- a count grows
 pub below-grows : (i : ℕ) {m n : ℕ} → m ≤ n → ltb i m ≡ true → ltb i n ≡ true
