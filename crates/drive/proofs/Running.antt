@@ -14,7 +14,7 @@ use Rattle.model.specs.declared.state.State.{State}
 use Rattle.judge.specs.Judgement.{inOrder}
 use Rattle.sound.proofs.Theorem.{state-of}
 use Rattle.drive.specs.declared.Held.{Held}
-use Rattle.loads.specs.Sizes.{loadBytes}
+use Rattle.load_bytes.specs.Sizes.{loadBytes}
 use Rattle.session.specs.declared.Chunk.{Chunk}
 use Rattle.session.specs.Chunks.{Ran, Advanced}
 use Rattle.session.proofs.Going.{wants-load}

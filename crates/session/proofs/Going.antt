@@ -18,7 +18,7 @@ use Rattle.model.specs.declared.project.Project.{Project}
 use Rattle.model.specs.declared.state.State.{State}
 use Rattle.judge.specs.Judgement.{inOrder}
 use Rattle.sound.proofs.Theorem.{state-of}
-use Rattle.loads.specs.Sizes.{loadBytes}
+use Rattle.load_bytes.specs.Sizes.{loadBytes}
 use Rattle.turns.specs.declared.Turned.{Turned}
 use Rattle.turns.specs.Turns.{Turn, turn}
 use Rattle.turns.specs.Turned.{TurnedAs}

@@ -24,8 +24,8 @@ use Rattle.call_words.specs.Calls as asking
 use Rattle.demand3.specs.Calls.{outcome}
 use Rattle.demand3.proofs.Quiet.{quiet}
 use Rattle.demand3.proofs.Lawful.{lawful, accepted-times}
-use Rattle.loads.specs.Sizes.{loadWords, loadBytes}
-use Rattle.loads.proofs.Inner.{fit}
+use Rattle.load_bytes.specs.Sizes.{loadWords, loadBytes}
+use Rattle.load_bytes.proofs.Inner.{fit}
 use Rattle.turns.specs.Turns.{Turn, prepared, stepTurn, endTurn, loadTurn, inputTurn, turn}
 use Rattle.turns.proofs.Inner.{prepared-in-order}
 

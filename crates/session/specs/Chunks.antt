@@ -12,7 +12,7 @@ use Rattle.listing.specs.Listing.{Line, textOf}
 use Rattle.model.specs.declared.project.Project.{Project}
 use Rattle.model.specs.declared.state.State.{State}
 use Rattle.judge.specs.Judgement.{inOrder}
-use Rattle.loads.specs.Sizes.{loadBytes}
+use Rattle.load_bytes.specs.Sizes.{loadBytes}
 use Rattle.session.specs.declared.Chunk.{Chunk}
 use Rattle.session.specs.Runs.{turns}
 

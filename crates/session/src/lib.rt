@@ -5,7 +5,7 @@ ghost use mathlib.Core.Bool.{true};
 ghost use Rattle.judge.specs.Judgement.{inOrder};
 ghost use Rattle.session.specs.Chunks.{wantsInput, canTurn, Ran, Advanced};
 use judge::in_order;
-use loads::load_words;
+use load_bytes::load_words;
 use model::*;
 use turns::turn;
 

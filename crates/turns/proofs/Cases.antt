@@ -20,7 +20,7 @@ use Rattle.simulation.specs.declared.step.Stepped.{Stepped}
 use Rattle.calls.specs.Calls.{load, tankLinks, step}
 use Rattle.calls.specs.declared.Called.{Called}
 use Rattle.sound.proofs.Theorem.{tank-links-in-order, load-in-order}
-use Rattle.loads.specs.Sizes.{loadWords, loadBytes}
+use Rattle.load_bytes.specs.Sizes.{loadWords, loadBytes}
 use Rattle.turns.specs.declared.Turned.{Turned}
 use Rattle.turns.specs.Turns.{Turn, prepared, stepTurn, endTurn, finishedTurn, refusedTurn, loadTurn, inputTurn, turn}
 use Rattle.turns.specs.Turned.{TurnedAs}

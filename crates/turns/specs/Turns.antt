@@ -11,7 +11,7 @@ use Rattle.model.specs.declared.project.Project.{Project}
 use Rattle.model.specs.declared.state.State.{State}
 use Rattle.calls.specs.Calls.{patterns, controls, load, tankLinks, step}
 use Rattle.calls.specs.declared.Called.{Called}
-use Rattle.loads.specs.Sizes.{loadWords, loadBytes}
+use Rattle.load_bytes.specs.Sizes.{loadWords, loadBytes}
 
 -- what a turn makes of a state and the bytes that are left: the next state, how many bytes it takes, its line, and whether the run ends there
 pub record Turn : Type 0 where

@@ -7,8 +7,8 @@ ghost use lib.ListN.{length};
 ghost use Rattle.judge.specs.Judgement.{inOrder};
 ghost use Rattle.turns.specs.Turns.{prepared, stepTurn, finishedTurn, refusedTurn, inputTurn, turn};
 ghost use Rattle.turns.specs.Turned.{TurnedAs};
-use loads::load_from;
-use loads::load_words;
+use load_bytes::load_from;
+use load_bytes::load_words;
 use model::*;
 
 // The state after a turn, the bytes that it took, the position after its line, and whether the run ends there.

@@ -2,8 +2,8 @@
 use Prim.Native.Nat.{ℕ, _+_, _-_, _*_}
 use mathlib.Core.Path.{_≡_, sym, ap, _∙_}
 use mathlib.Core.Bool.{cond}
-use Rattle.loads.specs.Sizes.{loadBytes}
-use Rattle.loads.proofs.Inner.{fit}
+use Rattle.load_bytes.specs.Sizes.{loadBytes}
+use Rattle.load_bytes.proofs.Inner.{fit}
 use Rattle.session.proofs.Going.{Going, going-begun, going-length, going-inside, going-less, going-turn, going-ended, Ready, ready, on-part}
 use lib.ListN.{length, drop}
 use Rattle.turns.specs.Turns.{turn}

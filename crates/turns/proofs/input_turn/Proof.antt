@@ -1,5 +1,5 @@
 -- `turns::input_turn` meets its contract: one law a case. Assumes nothing.
-use Rattle.loads.proofs.Inner.{fit}
+use Rattle.load_bytes.proofs.Inner.{fit}
 use Rattle.turns.proofs.Cases.{turned-as, input-none, input-cut, input-taken, input-refused, answer-in-order}
 use borrow.Author.Needs.{needs}
 use Rattle.turns.proofs.input_turn.Statement.{statement}

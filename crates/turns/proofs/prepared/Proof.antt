@@ -1,6 +1,6 @@
 -- `turns::prepared` meets its contract: on a state in order the public calls are the functions behind them. Assumes nothing.
 use mathlib.Core.Path.{sym, _∙_}
-use Rattle.loads.proofs.Inner.{fit}
+use Rattle.load_bytes.proofs.Inner.{fit}
 use Rattle.turns.proofs.Inner.{prepared-inner}
 use Rattle.turns.proofs.prepared.Statement.{statement}
 use Rattle.turns.proofs.prepared.Tie as tie

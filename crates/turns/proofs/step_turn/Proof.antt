@@ -1,5 +1,5 @@
 -- `turns::step_turn` meets its contract: on a state in order the public calls are the functions behind them. Assumes nothing.
-use Rattle.loads.proofs.Inner.{fit}
+use Rattle.load_bytes.proofs.Inner.{fit}
 use Rattle.turns.proofs.Cases.{step-made}
 use borrow.Author.Needs.{needs}
 use Rattle.turns.proofs.step_turn.Statement.{statement}

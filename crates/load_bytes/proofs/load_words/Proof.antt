@@ -1,12 +1,12 @@
--- `loads::load_words` meets its contract. Assumes nothing.
+-- `load_bytes::load_words` meets its contract. Assumes nothing.
 use Prim.Native.Nat.{ℕ, _+_, _*_}
 use mathlib.Core.Path.{ap}
 use Rattle.load.proofs.Values.{values-most-fit}
-use Rattle.loads.specs.Sizes.{loadWords}
+use Rattle.load_bytes.specs.Sizes.{loadWords}
 use borrow.Author.Needs.{needs}
 use native.Mathlib.Omega.{arith}
-use Rattle.loads.proofs.load_words.Statement.{statement}
-use Rattle.loads.proofs.load_words.Tie as tie
+use Rattle.load_bytes.proofs.load_words.Statement.{statement}
+use Rattle.load_bytes.proofs.load_words.Tie as tie
 
 value-count-requires : tie.Need-value-count-requires
 value-count-requires c κs = search needs

@@ -1,4 +1,4 @@
--- `loads::load_from` meets its contract: the words are lent, filled and read. Assumes nothing.
+-- `load_bytes::load_from` meets its contract: the words are lent, filled and read. Assumes nothing.
 use Prim.Native.Nat.{ℕ, _*_, _≤_}
 use mathlib.Core.Path.{sym, ap, _∙_}
 use mathlib.Core.List.{List}
@@ -7,10 +7,10 @@ use lib.Seq.{length-take-le}
 use Rattle.words.specs.Words.{firstWords}
 use Rattle.words.proofs.Filling.{lent-words, lent-room}
 use Rattle.calls.specs.Calls.{load}
-use Rattle.loads.proofs.Inner.{fit}
+use Rattle.load_bytes.proofs.Inner.{fit}
 use borrow.Author.Needs.{needs}
-use Rattle.loads.proofs.load_from.Statement.{statement}
-use Rattle.loads.proofs.load_from.Tie as tie
+use Rattle.load_bytes.proofs.load_from.Statement.{statement}
+use Rattle.load_bytes.proofs.load_from.Tie as tie
 
 space-requires : tie.Need-space-requires
 space-requires c κs = search needs

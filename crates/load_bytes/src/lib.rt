@@ -7,7 +7,7 @@ ghost use Rattle.tables.specs.Fit.{TablesFit};
 ghost use Rattle.judge.specs.Judgement.{inOrder};
 ghost use Rattle.calls.specs.Calls.{load};
 ghost use Rattle.words.specs.Words.{firstWords};
-ghost use Rattle.loads.specs.Sizes.{loadWords, loadBytes};
+ghost use Rattle.load_bytes.specs.Sizes.{loadWords, loadBytes};
 use calls::Called;
 use model::*;
 

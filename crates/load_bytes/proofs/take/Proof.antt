@@ -1,8 +1,8 @@
--- `loads::take` meets its contract. Assumes nothing.
+-- `load_bytes::take` meets its contract. Assumes nothing.
 use borrow.Author.Tests.{eq-eqb, ne-eqb}
-use Rattle.loads.proofs.Inner.{fit, load-inner}
-use Rattle.loads.proofs.take.Statement.{statement}
-use Rattle.loads.proofs.take.Tie as tie
+use Rattle.load_bytes.proofs.Inner.{fit, load-inner}
+use Rattle.load_bytes.proofs.take.Statement.{statement}
+use Rattle.load_bytes.proofs.take.Tie as tie
 
 load-fault-requires : tie.Need-load-fault-requires
 load-fault-requires c κs = fit (c .before .args .p) (c .before .args .s) (c .before .pre)
