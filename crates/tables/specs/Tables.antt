@@ -1,6 +1,6 @@
 -- Document 01, number 10: "tables break 4 to 6". The tests are the decoder's own (`records` and the crates of each kind's records), of every entry
--- below the counts; "entries past the counts are not judged". (`_+_` is here for must-fail/tables_default_at_count.)
-use Prim.Native.Nat.{ℕ, _+_, _≤_}
+-- below the counts; "entries past the counts are not judged".
+use Prim.Native.Nat.{ℕ, _≤_}
 use mathlib.Core.Bool.{Bool, _&&_}
 use lib.ListN.{getD}
 use Rattle.model.specs.Loops.{allBelow}
