@@ -1,12 +1,11 @@
 // The run of a list that comes in by a descriptor.
-use crate::input::read_bytes;
-use crate::input::read_call;
-use crate::input::read_image;
-use crate::output::put_answer;
-use crate::output::put_start;
-use crate::output::put_state;
+use call_input::read_bytes;
+use call_input::read_call;
+use call_input::read_image;
 use image::Decoded;
 use model::*;
+use state_text::put_call_line;
+use state_text::put_start_line;
 
 // The number of a list that is cut or has another code.
 const BAD_LIST: u32 = 18;
@@ -27,9 +26,8 @@ fn refuse(to: i32, out: &mut [u8], number: u32) {
 fn replay_call(to: i32, p: Project, s: State, call: &[u32], out: &mut [u8]) -> State {
     let code = entries::word(call, 0);
     let o = run_call::call(p, s, call);
-    let at = put_answer(out, code, o);
     let state = o.state;
-    let n = put_state(out, at, p.counts, state);
+    let n = put_call_line(out, code, o.number, o.length, o.truth, p.counts, state);
     write(to, out, n);
     state
 }
@@ -80,8 +78,7 @@ fn replay_project(
 ) {
     let started = calls::new_with_initial_values(p);
     let state = started.state;
-    let at = put_start(out);
-    let n = put_state(out, at, p.counts, state);
+    let n = put_start_line(out, p.counts, state);
     write(to, out, n);
     if !read_bytes(from, bytes, 0, 4) {
         refuse(to, out, BAD_LIST);

@@ -1,4 +1,4 @@
-// The words of an image and of a call from a descriptor.
+// The words of an image and of a call, read from a descriptor. No contract can say what comes in; a count is held to what there is room for.
 
 // The longest load has 1,281 words. Of a longer one as many stand for it as are enough to refuse it.
 const LONGEST: u32 = 1282;

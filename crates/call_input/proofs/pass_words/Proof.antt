@@ -1,10 +1,10 @@
--- `transcript::input::pass_words` meets its contract. Assumes nothing.
+-- `call_input::pass_words` meets its contract. Assumes nothing.
 use Prim.Native.Nat.{_-_}
 use mathlib.Core.Path.{_≡_}
 use lib.ListN.{length}
 use borrow.Author.Needs.{needs}
-use Rattle.transcript.proofs.input.pass_words.Statement.{statement}
-use Rattle.transcript.proofs.input.pass_words.Tie as tie
+use Rattle.call_input.proofs.pass_words.Statement.{statement}
+use Rattle.call_input.proofs.pass_words.Tie as tie
 
 abbrev Inv-loop : tie.InvT-loop
 Inv-loop from bytes₀ n i₀ bytes i = length bytes ≡ length bytes₀

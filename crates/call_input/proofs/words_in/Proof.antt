@@ -1,11 +1,11 @@
--- `transcript::input::words_in` meets its contract. Assumes nothing.
+-- `call_input::words_in` meets its contract. Assumes nothing.
 use mathlib.Core.Path.{sym}
 use native.Mathlib.Omega.{arith}
 use denote.Ref.{now}
 use lib.Seq.{length-take-le}
 use borrow.Author.Needs.{needs}
-use Rattle.transcript.proofs.input.words_in.Statement.{statement}
-use Rattle.transcript.proofs.input.words_in.Tie as tie
+use Rattle.call_input.proofs.words_in.Statement.{statement}
+use Rattle.call_input.proofs.words_in.Tie as tie
 
 returns : tie.Need-returns
 returns c = search needs
