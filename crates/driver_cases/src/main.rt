@@ -1,13 +1,11 @@
 // Runs the driver on each of the files case000, case001, .. of the folder that it is run in, and prints a line with the name of each before its
 // listing. `compare/rust/driver_cases.py` makes the files, the works of the stock among them, and has the Rust say what is to be printed.
+use case_names::case_name;
 use libc::STDOUT_FILENO;
 
 // Runs case i, and answers whether there is one.
 fn run_case(i: u32, input: &mut [u8; 65536], out: &mut [u8; 65536]) -> bool {
-    let mut name = [b'c', b'a', b's', b'e', 48, 48, 48];
-    name[4] = (48 + i / 100 % 10) as u8;
-    name[5] = (48 + i / 10 % 10) as u8;
-    name[6] = (48 + i % 10) as u8;
+    let name = case_name(i);
     let fd = os::open_read(&name);
     if fd < 0 {
         return false;

@@ -1,5 +1,6 @@
 // Decodes each of the files case000, case001, .. of the folder that it is run in, and prints a line with the number of its first fault.
 // `compare/images.py` makes the files, and says of each which sentence of document 01 it is for.
+use case_names::case_name;
 use libc::STDOUT_FILENO;
 
 // The words of a file that is open, and how many they are.
@@ -23,10 +24,7 @@ fn print_fault(words: &[u32], k: usize) {
 
 // Decodes case i, and answers whether there is one.
 fn run_case(i: u32, input: &mut [u8], words: &mut [u32]) -> bool {
-    let mut name = [b'c', b'a', b's', b'e', 48, 48, 48];
-    name[4] = (48 + i / 100 % 10) as u8;
-    name[5] = (48 + i / 10 % 10) as u8;
-    name[6] = (48 + i % 10) as u8;
+    let name = case_name(i);
     let fd = os::open_read(&name);
     if fd < 0 {
         return false;

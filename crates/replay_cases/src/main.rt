@@ -1,13 +1,11 @@
 // Replays each of the files case000, case001, .. of the folder that it is run in, and prints a line with the name of each before its transcript.
 // `compare/rust/vectors.py` chose them; what they must print is the Rust's answer.
+use case_names::case_name;
 use libc::STDOUT_FILENO;
 
 // Replays case i, and answers whether there is one.
 fn run_case(i: u32, table: &mut [u32], bytes: &mut [u8], out: &mut [u8]) -> bool {
-    let mut name = [b'c', b'a', b's', b'e', 48, 48, 48];
-    name[4] = (48 + i / 100 % 10) as u8;
-    name[5] = (48 + i / 10 % 10) as u8;
-    name[6] = (48 + i % 10) as u8;
+    let name = case_name(i);
     let fd = os::open_read(&name);
     if fd < 0 {
         return false;
