@@ -1,5 +1,5 @@
 -- Pieces of a line put one behind the other, and how long they are. Assumes nothing.
-use Prim.Native.Nat.{ℕ, zero, suc, _+_, _*_, _/_, _%_, _≤_, _<_}
+use Prim.Native.Nat.{ℕ, zero, suc, _+_, _*_, _/_, _%_, min, _≤_, _<_}
 use mathlib.Core.Path.{_≡_, refl, sym, ap, _∙_}
 use mathlib.Core.Bool.{Bool, true, false, cond}
 use mathlib.Core.List.{List, [], _∷_, _++_}
@@ -9,7 +9,6 @@ use borrow.Author.Tests.{lt-ltb, le-ltb, ne-eqb}
 use lib.Dec.{eqb}
 use lib.Ieee.{Float}
 use lib.ListN.{length, length-append}
-use Rattle.clock.proofs.Tests.{ltb-ind}
 use Rattle.listing.specs.Numbers.{decimalText}
 use Rattle.listing.specs.Text.{pasted, put, after}
 use Rattle.listing.proofs.Digits.{digits-count}
@@ -20,7 +19,7 @@ use Rattle.model.specs.declared.project.Counts.{Counts}
 use Rattle.model.specs.declared.state.LinkState.{LinkState}
 use Rattle.model.specs.declared.state.NodeState.{NodeState}
 use Rattle.model.specs.declared.state.State.{State}
-use Rattle.state_text.specs.Lines.{wordText, numberText, nodeText, linkText, nodesText, linksText, fewer, stateText, nameText, truthText, givenText, refusedText, answerText, written, size}
+use Rattle.state_text.specs.Lines.{wordText, numberText, nodeText, linkText, nodesText, linksText, stateText, nameText, truthText, givenText, refusedText, answerText, written, size}
 
 -- ---- one piece, and two
 module _ (buf : List ℕ) (at : ℕ) where
@@ -183,19 +182,16 @@ answer-short code number seconds truth =
     omega (arith, rest, name-short code, length-append (nameText code) (cond (eqb number 0) (givenText code seconds truth) (refusedText number)))
 
 -- ---- a state, and a line
-pub fewer-most : (count most : ℕ) → fewer count most ≤ most
-fewer-most count most = ltb-ind (λ (b : Bool). cond b count most ≤ most) count most (λ l. omega arith) (λ l. omega arith)
-
 pub state-short : (c : Counts) (s : State) → length (stateText c s) ≤ 32675
 unfolding stateText
 state-short c s =
     let a = wordText (s .clock .instant) in
     let b = wordText (s .clock .count) in
-    let x = nodesText (fewer (c .nodes) 256) s in
-    let y = linksText (fewer (c .links) 384) s in
-    omega (arith, word-length (s .clock .instant), word-length (s .clock .count), length-append a b, length-append (a ++ b) x, length-append ((a ++ b) ++ x) y, length-append (((a ++ b) ++ x) ++ y) (10 ∷ []), nodes-length (fewer (c .nodes) 256) s, links-length (fewer (c .links) 384) s, fewer-most (c .nodes) 256, fewer-most (c .links) 384)
+    let x = nodesText (min (c .nodes) 256) s in
+    let y = linksText (min (c .links) 384) s in
+    omega (arith, word-length (s .clock .instant), word-length (s .clock .count), length-append a b, length-append (a ++ b) x, length-append ((a ++ b) ++ x) y, length-append (((a ++ b) ++ x) ++ y) (10 ∷ []), nodes-length (min (c .nodes) 256) s, links-length (min (c .links) 384) s)
 
-module _ (buf : List ℕ) (at : ℕ) (c : Counts) (s : State) {nodes links : ℕ} (few : nodes ≡ fewer (c .nodes) 256) (fewLinks : links ≡ fewer (c .links) 384) (room : at + 32675 ≤ length buf) where
+module _ (buf : List ℕ) (at : ℕ) (c : Counts) (s : State) {nodes links : ℕ} (few : nodes ≡ min (c .nodes) 256) (fewLinks : links ≡ min (c .links) 384) (room : at + 32675 ≤ length buf) where
   abbrev instantText : List ℕ
   instantText = wordText (s .clock .instant)
 
@@ -223,12 +219,10 @@ module _ (buf : List ℕ) (at : ℕ) (c : Counts) (s : State) {nodes links : ℕ
       let v = word-length (s .clock .count) in
       let w = nodes-length nodes s in
       let z = links-length links s in
-      let mostNodes = fewer-most (c .nodes) 256 in
-      let mostLinks = fewer-most (c .links) 384 in
       let two = both buf at a b (omega (arith, room, u, v)) p q in
-      let three = both buf at (a ++ b) x (omega (arith, room, u, v, w, ab, few, mostNodes)) two n in
-      let four = both buf at ((a ++ b) ++ x) y (omega (arith, room, u, v, w, z, ab, abx, few, mostNodes, fewLinks, mostLinks)) three m in
-      rw (← few, ← fewLinks) (both-put buf at (((a ++ b) ++ x) ++ y) (10 ∷ []) (omega (arith, room, u, v, w, z, ab, abx, abxy, few, mostNodes, fewLinks, mostLinks)) four e f)
+      let three = both buf at (a ++ b) x (omega (arith, room, u, v, w, ab, few)) two n in
+      let four = both buf at ((a ++ b) ++ x) y (omega (arith, room, u, v, w, z, ab, abx, few, fewLinks)) three m in
+      rw (← few, ← fewLinks) (both-put buf at (((a ++ b) ++ x) ++ y) (10 ∷ []) (omega (arith, room, u, v, w, z, ab, abx, abxy, few, fewLinks)) four e f)
 
 -- a line in a buffer with room for the longest, and in a smaller one
 module _ (buf line : List ℕ) where

@@ -1,7 +1,7 @@
--- The lines that the program `replay` prints, as bytes.
+-- The lines that the program `replay` prints, as bytes. What is quoted is the description of that program; compare/rust/README.md has it too.
 -- Assumes nothing.
-use Prim.Native.Nat.{ℕ, zero, suc, _/_, _%_, _^_}
-use mathlib.Core.Bool.{Bool, true, false, cond}
+use Prim.Native.Nat.{ℕ, zero, suc, min, _/_, _%_, _^_}
+use mathlib.Core.Bool.{Bool, cond}
 use mathlib.Core.List.{List, [], _∷_, _++_}
 use lib.Dec.{eqb, ltb}
 use lib.Ieee.{Float, binary64, toBits}
@@ -39,14 +39,10 @@ unfoldable pub linksText : ℕ → State → List ℕ
 linksText zero s = []
 linksText (suc n) s = linksText n s ++ linkText (linkStateAt s n)
 
--- a count, and no more than a table holds
-abbrev pub fewer : ℕ → ℕ → ℕ
-fewer count most = cond (ltb count most) count most
-
--- "instant, count, then for each node .., then for each link .."; "Lines end in byte 10"
+-- "instant, count, then for each node .., then for each link .."; "Lines end in byte 10". A count past its table stands for the whole table.
 unfoldable pub stateText : Counts → State → List ℕ
 stateText c s =
-    (((wordText (s .clock .instant) ++ wordText (s .clock .count)) ++ nodesText (fewer (c .nodes) 256) s) ++ linksText (fewer (c .links) 384) s) ++ (10 ∷ [])
+    (((wordText (s .clock .instant) ++ wordText (s .clock .count)) ++ nodesText (min (c .nodes) 256) s) ++ linksText (min (c .links) 384) s) ++ (10 ∷ [])
 
 -- "`patterns ok`, `controls ok`, `load ok` or `load refused=N`, `close ok`, `pressure true` or `pressure false`, `premise true`, `premise false` or
 -- `premise refused=N`, `step L` with the length in decimal"

@@ -1,9 +1,9 @@
 // A whole line.
 ghost use mathlib.Core.Path.{_≡_};
-ghost use Prim.Native.Nat.{_+_, _≤_};
+ghost use Prim.Native.Nat.{_+_, _≤_, min};
 ghost use lib.ListN.{length};
 ghost use Rattle.listing.specs.Text.{pasted};
-ghost use Rattle.state_text.specs.Lines.{fewer, stateText, startLine, callLine, written, size};
+ghost use Rattle.state_text.specs.Lines.{stateText, startLine, callLine, written, size};
 use crate::answers::put_answer;
 use crate::words::put_links;
 use crate::words::put_nodes;
@@ -14,8 +14,9 @@ use model::*;
 // 27 bytes of an answer, 35 of instant, count and the line's end, and 51 of each of 256 nodes and 384 links.
 const LONGEST_LINE: usize = 32702;
 
+// A count, and no more than a table holds.
 fn fewer(count: usize, most: usize) -> usize
-    ensures { λ r. ⌜ r ≡ fewer count most ⌝ }
+    ensures { λ r. ⌜ r ≡ min count most ⌝ }
 {
     if count < most {
         return count;

@@ -1,6 +1,5 @@
 -- `state_text::answers::put_given` meets its contract. Assumes nothing.
 use native.Mathlib.Omega.{arith}
-use Rattle.listing.specs.Numbers.{decimalText}
 use Rattle.state_text.specs.Lines.{givenText}
 use Rattle.state_text.proofs.Pieces.{fits, given-7, given-6, given-5, given-ok, given-short}
 use borrow.Author.Needs.{needs}

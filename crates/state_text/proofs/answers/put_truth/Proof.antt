@@ -1,5 +1,4 @@
 -- `state_text::answers::put_truth` meets its contract. Assumes nothing.
-use mathlib.Core.Path.{refl}
 use native.Mathlib.Omega.{arith}
 use Rattle.state_text.specs.Lines.{truthText}
 use Rattle.state_text.proofs.Pieces.{fits, truth-true, truth-false, truth-short}

@@ -1,6 +1,6 @@
 -- `state_text::lines::put_state` meets its contract: its pieces are put one behind the other. Assumes nothing.
 use native.Mathlib.Omega.{arith}
-use Rattle.state_text.proofs.Pieces.{word-length, nodes-length, fewer-most, state-put}
+use Rattle.state_text.proofs.Pieces.{word-length, nodes-length, state-put}
 use borrow.Author.Needs.{needs}
 use Rattle.state_text.proofs.lines.put_state.Statement.{statement}
 use Rattle.state_text.proofs.lines.put_state.Tie as tie
@@ -26,15 +26,12 @@ put-word-requires-2 c κs = omega (arith, c .before .before .before .before .bef
 put-nodes-requires : tie.Need-put-nodes-requires
 put-nodes-requires c κs =
     let a = c .before .before .before .before .before .before .before .before .before .before .before .before .before .before .args in
-    let most = fewer-most (a .counts .nodes) 256 in
-    (omega (arith, c .before .before .before .before .before .before .before .before .before .before .before .before .fewer .ensures, most), omega (arith, c .before .before .before .before .before .before .before .before .before .before .before .before .before .before .pre, word-length (a .s .clock .instant), word-length (a .s .clock .count), c .before .before .before .before .before .before .before .before .put-word .ensures .0, c .before .before .before .put-word2 .ensures .0, c .before .before .before .before .before .before .before .before .before .before .before .before .fewer .ensures, most))
+    (omega (arith, c .before .before .before .before .before .before .before .before .before .before .before .before .fewer .ensures), omega (arith, c .before .before .before .before .before .before .before .before .before .before .before .before .before .before .pre, word-length (a .s .clock .instant), word-length (a .s .clock .count), c .before .before .before .before .before .before .before .before .put-word .ensures .0, c .before .before .before .put-word2 .ensures .0, c .before .before .before .before .before .before .before .before .before .before .before .before .fewer .ensures))
 
 put-links-requires : tie.Need-put-links-requires
 put-links-requires c κs =
     let a = c .before .before .before .before .before .before .before .before .before .before .before .before .before .before .before .before .before .before .args in
-    let most = fewer-most (a .counts .nodes) 256 in
-    let mostLinks = fewer-most (a .counts .links) 384 in
-    (omega (arith, c .before .before .before .before .before .before .before .before .before .before .before .before .before .before .before .fewer2 .ensures, mostLinks), omega (arith, c .before .before .before .before .before .before .before .before .before .before .before .before .before .before .before .before .before .before .pre, word-length (a .s .clock .instant), word-length (a .s .clock .count), nodes-length (c .before .before .before .before .before .before .before .before .before .before .before .before .before .before .before .before .fewer .result) (a .s), c .before .before .before .before .before .before .before .before .before .before .before .before .put-word .ensures .0, c .before .before .before .before .before .before .before .put-word2 .ensures .0, c .before .before .before .put-nodes .ensures .0, c .before .before .before .before .before .before .before .before .before .before .before .before .before .before .before .before .fewer .ensures, most, c .before .before .before .before .before .before .before .before .before .before .before .before .before .before .before .fewer2 .ensures, mostLinks))
+    (omega (arith, c .before .before .before .before .before .before .before .before .before .before .before .before .before .before .before .fewer2 .ensures), omega (arith, c .before .before .before .before .before .before .before .before .before .before .before .before .before .before .before .before .before .before .pre, word-length (a .s .clock .instant), word-length (a .s .clock .count), nodes-length (c .before .before .before .before .before .before .before .before .before .before .before .before .before .before .before .before .fewer .result) (a .s), c .before .before .before .before .before .before .before .before .before .before .before .before .put-word .ensures .0, c .before .before .before .before .before .before .before .put-word2 .ensures .0, c .before .before .before .put-nodes .ensures .0, c .before .before .before .before .before .before .before .before .before .before .before .before .before .before .before .before .fewer .ensures, c .before .before .before .before .before .before .before .before .before .before .before .before .before .before .before .fewer2 .ensures))
 
 slice-aggregate-put-text : tie.Need-slice-aggregate-put-text
 slice-aggregate-put-text c = search needs
