@@ -31,9 +31,9 @@ use Rattle.calls.specs.Calls as calls
 use Rattle.calls.specs.Calls.{gives, start, premiseNumber}
 use Rattle.calls.specs.declared.PremiseAnswer.{PremiseAnswer}
 use Rattle.calls.specs.declared.PremiseAnswer.the-variants.{Truth, Refused}
-use Rattle.sound.proofs.Step.{step-in-order, step-accepted, step-length, step-within, step-moves}
-use Rattle.sound.proofs.Theorem.{tables-of, state-of, start-in-order, patterns-in-order, patterns-accepted, controls-in-order, controls-accepted, tank-links-in-order, tank-links-accepted, pressure-in-order, pressure-accepted, load-in-order, load-number, premise-number}
-use Rattle.call_words.specs.Calls.{Call, patterns, controls, load, tankLinks, pressure, premise, step, isStep}
+use Rattle.calls_sound.proofs.Step.{step-in-order, step-accepted, step-length, step-within, step-moves}
+use Rattle.calls_sound.proofs.Theorem.{tables-of, state-of, start-in-order, patterns-in-order, patterns-accepted, controls-in-order, controls-accepted, tank-links-in-order, tank-links-accepted, pressure-in-order, pressure-accepted, load-in-order, load-number, premise-number}
+use Rattle.list_words.specs.Calls.{Call, patterns, controls, load, tankLinks, pressure, premise, step, isStep}
 use Rattle.demand3.specs.Calls.{asked, outcome}
 use Rattle.demand3.specs.Machine.{MayGive, machine}
 use Rattle.demand3.proofs.Quiet.{quiet, start-quiet}

@@ -24,7 +24,7 @@ use Rattle.calls.specs.declared.Called.{Called}
 use Rattle.calls.specs.declared.PremiseAnswer.{PremiseAnswer}
 use Rattle.calls.specs.declared.PremiseAnswer.the-variants.{Truth, Refused}
 use Rattle.calls.specs.declared.PressureCalled.{PressureCalled}
-use Rattle.call_words.specs.Calls.{Call, patterns, controls, load, tankLinks, pressure, premise, step, isStep}
+use Rattle.list_words.specs.Calls.{Call, patterns, controls, load, tankLinks, pressure, premise, step, isStep}
 use Rattle.demand3.specs.Calls.{asked, outcome}
 
 -- ---- the functions behind the calls

@@ -9,10 +9,10 @@ use Rattle.model.specs.declared.project.Project.{Project}
 use Rattle.tables.specs.Tables.{tablesOk}
 use Rattle.tables.proofs.Fits.{tables-fit}
 use Rattle.image.specs.Image.{decode}
-use Rattle.acceptance.proofs.Accepted.{accepted}
+use Rattle.image_accepted.proofs.Accepted.{accepted}
 use Rattle.simulation.specs.Steps.{timesOf, triggersOf}
 use Rattle.calls.specs.Calls.{start}
-use Rattle.call_words.specs.Calls.{Call}
+use Rattle.list_words.specs.Calls.{Call}
 use Rattle.demand3.specs.Machine.{machine, Demand3}
 use Rattle.demand3.proofs.Lawful.{accepted-times, lawful, start-accepted, started}
 

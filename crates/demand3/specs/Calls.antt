@@ -6,7 +6,7 @@ use Rattle.calls.specs.Calls as calls
 use Rattle.calls.specs.declared.Called.{Called}
 use Rattle.calls.specs.declared.PremiseAnswer.{PremiseAnswer}
 use Rattle.calls.specs.declared.PremiseAnswer.the-variants.{Truth, Refused}
-use Rattle.call_words.specs.Calls.{Call, patterns, controls, load, tankLinks, pressure, premise, step}
+use Rattle.list_words.specs.Calls.{Call, patterns, controls, load, tankLinks, pressure, premise, step}
 use Rattle.demand3.specs.declared.Outcome.{Outcome}
 
 -- the number and the state, of a call that answers no more

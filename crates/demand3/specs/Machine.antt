@@ -11,7 +11,7 @@ use Rattle.model.specs.declared.state.State.{State}
 use Rattle.judge.specs.Judgement.{inOrder}
 use Rattle.simulation.specs.Steps.{Level, timesOf, triggersOf, momentOf}
 use Rattle.calls.specs.Calls.{start}
-use Rattle.call_words.specs.Calls.{Call, patterns, controls, load, tankLinks, pressure, premise, step, isStep}
+use Rattle.list_words.specs.Calls.{Call, patterns, controls, load, tankLinks, pressure, premise, step, isStep}
 use Rattle.demand3.specs.Calls.{outcome}
 
 -- "Only loads and premises can be refused there": a load with 7 or 8, a premise with 9

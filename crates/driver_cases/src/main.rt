@@ -12,7 +12,7 @@ fn run_case(i: u32, input: &mut [u8; 65536], out: &mut [u8; 65536]) -> bool {
     }
     io::write_all(STDOUT_FILENO, &name);
     io::write_all(STDOUT_FILENO, b"\n");
-    drive::drive(input, out, fd, STDOUT_FILENO);
+    driver_io::drive(input, out, fd, STDOUT_FILENO);
     libc::close(fd);
     true
 }

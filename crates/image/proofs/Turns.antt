@@ -9,10 +9,10 @@ use lib.ListN.{length, take, drop, getD, length-drop, drop-of-length-le}
 use lib.Seq.{drop-drop, take-all}
 use Rattle.model.specs.Blank.{emptyProject}
 use Rattle.model.specs.declared.project.Project.{Project}
-use Rattle.entries.specs.declared.entry.Entry.{Entry}
-use Rattle.framing.specs.Framing.{kindOf, sizeOf, stageOf, recordOf, payload, faultOf}
-use Rattle.framing.proofs.Records.{part-is, record-fits}
-use Rattle.placing.specs.Placed.{placed, Room}
+use Rattle.image_entry.specs.declared.entry.Entry.{Entry}
+use Rattle.image_record.specs.Framing.{kindOf, sizeOf, stageOf, recordOf, payload, faultOf}
+use Rattle.image_record.proofs.Records.{part-is, record-fits}
+use Rattle.image_place.specs.Placed.{placed, Room}
 use Rattle.image.specs.Image.{refused, finished, walk, decode}
 use Rattle.image.proofs.Room.{record-room}
 

@@ -1,12 +1,12 @@
 // The walk over the words.
 ghost use mathlib.Core.Path.{_≡_};
 ghost use Rattle.image.specs.Image.{refused, finished, decode};
-use framing::fault_of;
-use framing::record;
-use framing::stage_of;
+use image_place::place;
+use image_record::fault_of;
+use image_record::record;
+use image_record::stage_of;
 use model::Project;
-use placing::place;
-use records::pattern_index_ok;
+use table_ranges::pattern_index_ok;
 
 // The number of the first fault, 0 where there is none, and the tables.
 pub struct Decoded {

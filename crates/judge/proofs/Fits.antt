@@ -20,8 +20,8 @@ use Rattle.model.specs.declared.state.LinkState.{LinkState}
 use Rattle.model.specs.declared.state.NodeState.{NodeState}
 use Rattle.model.specs.declared.state.State.{State}
 use Rattle.model.proofs.Loops.{held-at}
-use Rattle.records.specs.Ranges.{statusOk}
-use Rattle.entry_fits.proofs.Tests.{each}
+use Rattle.table_ranges.specs.Ranges.{statusOk}
+use Rattle.table_entry.proofs.Tests.{each}
 use Rattle.judge.specs.Fit.{NodeStateFit, LinkStateFit, StateFit}
 use Rattle.judge.specs.Judgement.{nodeStateOk, linkStateOk, clockOk, nodeStateOkAt, nodeStatesOk, linkStateOkAt, linkStatesOk, stateOk}
 

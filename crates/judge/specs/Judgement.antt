@@ -12,7 +12,7 @@ use Rattle.model.specs.declared.project.Project.{Project}
 use Rattle.model.specs.declared.state.LinkState.{LinkState}
 use Rattle.model.specs.declared.state.NodeState.{NodeState}
 use Rattle.model.specs.declared.state.State.{State}
-use Rattle.records.specs.Ranges.{statusOk}
+use Rattle.table_ranges.specs.Ranges.{statusOk}
 use Rattle.tables.specs.Tables.{tablesOk}
 
 unfoldable pub nodeStateOk : NodeState → Bool

@@ -5,7 +5,7 @@ ghost use Rattle.judge.specs.Judgement.{nodeStateOk, linkStateOk, clockO
 use clock::Clock;
 use model::*;
 use number::within;
-use records::status_ok;
+use table_ranges::status_ok;
 use tables::tables_ok;
 
 fn node_state_ok(x: NodeState) -> bool

@@ -15,8 +15,8 @@ use Rattle.model.specs.declared.node.Node.{Node}
 use Rattle.model.specs.declared.project.Project.{Project}
 use Rattle.model.specs.declared.state.NodeState.{NodeState}
 use Rattle.model.specs.declared.state.State.{State}
-use Rattle.entries.specs.Words.{word, number}
-use Rattle.node_turns.specs.Inflow.{withDemand}
+use Rattle.image_entry.specs.Words.{word, number}
+use Rattle.state_node.specs.Inflow.{withDemand}
 
 -- number k of a load, behind the header
 abbrev pub valueAt : List ℕ → ℕ → Float

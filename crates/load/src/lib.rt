@@ -6,13 +6,13 @@ ghost use Rattle.model.specs.Nodes.{isJunction};
 ghost use Rattle.tables.specs.Fit.{TablesFit};
 ghost use Rattle.load.specs.Loads.{valueAt, valueCount, shapeOk, valuesOk, loadFault, loadFlows, loadedHead, takeLoad};
 ghost use Rattle.load.specs.Passes.{loadHeads, netInflows};
-use entries::word;
+use image_entry::word;
 use model::*;
-use node_turns::gained;
-use node_turns::lost;
 use number::from_words;
 use number::within;
 use state::empty_tanks;
+use state_node::gained;
+use state_node::lost;
 
 // Number k of a load.
 fn value_at(words: &[u32], k: usize) -> f64

@@ -6,7 +6,7 @@ fn main() {
     let mut table = [0u32; 16384];
     let mut bytes = io::large_buffer();
     let mut out = io::large_buffer();
-    transcript::transcribe(
+    replay_io::transcribe(
         STDIN_FILENO,
         STDOUT_FILENO,
         &mut table,

@@ -12,7 +12,7 @@ fn run_case(i: u32, table: &mut [u32], bytes: &mut [u8], out: &mut [u8]) -> bool
     }
     io::write_all(STDOUT_FILENO, &name);
     io::write_all(STDOUT_FILENO, b"\n");
-    transcript::transcribe(fd, STDOUT_FILENO, table, bytes, out);
+    replay_io::transcribe(fd, STDOUT_FILENO, table, bytes, out);
     libc::close(fd);
     true
 }

@@ -17,7 +17,7 @@ use Rattle.model.specs.declared.project.Project.{Project}
 use Rattle.model.specs.declared.state.State.{State}
 use Rattle.control.specs.Controls.{levelTime}
 use Rattle.state.specs.Tanks.{updateTanks}
-use Rattle.node_turns.specs.Tanks.{tankCandidate}
+use Rattle.state_node.specs.Tanks.{tankCandidate}
 use Rattle.simulation.specs.declared.step.Stepped.{Stepped}
 
 -- ---- the options

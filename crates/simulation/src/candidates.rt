@@ -10,8 +10,8 @@ use clock::smaller_positive;
 use control::candidate;
 use control::watched;
 use model::*;
-use node_turns::tank_candidate;
 use number::constants::MAX;
+use state_node::tank_candidate;
 
 fn no_tanks(p: Project) -> bool
     requires { ⌜ TablesFit p ⌝ }

@@ -20,7 +20,7 @@ use Rattle.model.specs.declared.state.State.{State}
 use Rattle.model.proofs.Loops.{kept}
 use Rattle.model.proofs.Pointwise.{putAt, put-at, kept-length, at-entry, each-at, onNodes, nodes-only}
 use Rattle.tables.specs.Fit.{TablesFit}
-use Rattle.node_turns.specs.Inflow.{withDemand, emptied, gained, lost}
+use Rattle.state_node.specs.Inflow.{withDemand, emptied, gained, lost}
 use Rattle.state.specs.Inflow.{tankEmptied, emptyTanks}
 use Rattle.state.proofs.Sums.{turnAt, pass-tank, pass-other, pass-past}
 use Rattle.solver.specs.Closing.{tankInflow, summed, nodeSummed, closeLinks, linkClosed, updateTankLinks}

@@ -11,8 +11,8 @@ use Rattle.model.specs.Nodes.{isTank}
 use Rattle.model.specs.declared.project.Project.{Project}
 use Rattle.model.specs.declared.state.NodeState.{NodeState}
 use Rattle.model.specs.declared.state.State.{State}
-use Rattle.node_turns.specs.Inflow.{withDemand}
-use Rattle.link_turns.specs.Closing.{closed}
+use Rattle.state_node.specs.Inflow.{withDemand}
+use Rattle.state_link.specs.Closing.{closed}
 
 abbrev pub linkClosed : Project → ℕ → State → State
 linkClosed p i s =

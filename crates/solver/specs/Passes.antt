@@ -4,7 +4,7 @@ use Rattle.model.specs.Blank.{nodeAt, linkAt, nodeStateAt, linkStateAt, withNod
 use Rattle.model.specs.Loops.{through}
 use Rattle.model.specs.declared.project.Project.{Project}
 use Rattle.model.specs.declared.state.State.{State}
-use Rattle.node_turns.specs.Inflow.{gained, lost}
+use Rattle.state_node.specs.Inflow.{gained, lost}
 
 abbrev pub linkInto : Project → ℕ → State → State
 linkInto p i s =

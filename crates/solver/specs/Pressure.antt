@@ -6,7 +6,7 @@ use Rattle.model.specs.Blank.{nodeAt, linkAt, controlAt, nodeStateAt, linkState
 use Rattle.model.specs.Loops.{through}
 use Rattle.model.specs.declared.project.Project.{Project}
 use Rattle.model.specs.declared.state.State.{State}
-use Rattle.link_turns.specs.Pressure.{press}
+use Rattle.state_link.specs.Pressure.{press}
 use Rattle.solver.specs.declared.pressure.Pressed.{Pressed}
 
 abbrev pub pressTurn : Project → ℕ → Pressed → Pressed

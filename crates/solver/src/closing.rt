@@ -3,11 +3,11 @@ ghost use mathlib.Core.Path.{_≡_};
 ghost use Rattle.tables.specs.Fit.{TablesFit};
 ghost use Rattle.solver.specs.Closing.{closeLinks, updateTankLinks};
 ghost use Rattle.solver.specs.Passes.{sumInto, sumOutOf};
-use link_turns::closed;
 use model::*;
-use node_turns::gained;
-use node_turns::lost;
 use state::empty_tanks;
+use state_link::closed;
+use state_node::gained;
+use state_node::lost;
 
 fn close_links(p: Project, s: State) -> State
     requires { ⌜ TablesFit p ⌝ }

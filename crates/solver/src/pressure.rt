@@ -3,8 +3,8 @@ ghost use mathlib.Core.Path.{_≡_};
 ghost use Rattle.tables.specs.Fit.{TablesFit};
 ghost use Rattle.solver.specs.Pressure.{applyPressureControls};
 use control::watched;
-use link_turns::press;
 use model::*;
+use state_link::press;
 
 // The state after the pass, and whether it changed anything.
 pub struct Pressed {

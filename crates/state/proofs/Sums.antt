@@ -14,7 +14,7 @@ use Rattle.model.specs.declared.node.Node.{Node}
 use Rattle.model.specs.declared.project.Project.{Project}
 use Rattle.model.specs.declared.state.NodeState.{NodeState}
 use Rattle.model.proofs.Pointwise.{idle, carried}
-use Rattle.node_turns.specs.Inflow.{withDemand}
+use Rattle.state_node.specs.Inflow.{withDemand}
 
 -- a tank's demand with a flow taken in by an operation; other nodes stay
 abbrev pub taken : (Float → Float → Float) → Node → NodeState → Float → NodeState

@@ -15,7 +15,7 @@ use Rattle.model.specs.declared.pattern.PatternIndex.the-variants.{NoPattern, P
 use Rattle.model.specs.declared.project.Project.{Project}
 use Rattle.model.proofs.Each.{below}
 use Rattle.state.specs.Patterns.{multiplierOf, tableOf}
-use Rattle.node_patterns.specs.Patterns.{tabled}
+use Rattle.state_patterns.specs.Patterns.{tabled}
 
 module _ (p : Project) (t : ℕ) where
   abbrev value : ℕ → Float → Float

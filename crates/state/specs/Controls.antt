@@ -6,7 +6,7 @@ use Rattle.model.specs.Blank.{nodeAt, linkAt, controlAt, nodeStateAt, linkState
 use Rattle.model.specs.Loops.{through}
 use Rattle.model.specs.declared.project.Project.{Project}
 use Rattle.model.specs.declared.state.State.{State}
-use Rattle.link_turns.specs.Controls.{controlled}
+use Rattle.state_link.specs.Controls.{controlled}
 
 -- control i's turn, on the state as it is by then
 abbrev pub controlTurn : Project → ℕ → ℕ → ℕ → State → State

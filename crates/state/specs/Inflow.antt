@@ -4,7 +4,7 @@ use Rattle.model.specs.Blank.{nodeAt, nodeStateAt, withNode}
 use Rattle.model.specs.Loops.{through}
 use Rattle.model.specs.declared.project.Project.{Project}
 use Rattle.model.specs.declared.state.State.{State}
-use Rattle.node_turns.specs.Inflow.{emptied}
+use Rattle.state_node.specs.Inflow.{emptied}
 
 abbrev pub tankEmptied : Project → ℕ → State → State
 tankEmptied p i s = withNode s i (emptied (nodeAt p i) (nodeStateAt s i))

@@ -13,7 +13,7 @@ use Rattle.model.specs.declared.pattern.PatternIndex.{PatternIndex}
 use Rattle.model.specs.declared.pattern.PatternIndex.the-variants.{NoPattern, PatternAt}
 use Rattle.model.specs.declared.project.Project.{Project}
 use Rattle.model.specs.declared.state.State.{State}
-use Rattle.node_patterns.specs.Patterns.{patterned}
+use Rattle.state_patterns.specs.Patterns.{patterned}
 
 -- the multiplier of a pattern at a period; 1 where none is named, or one past the table, which no accepted project does
 unfoldable pub multiplierOf : Project → ℕ → PatternIndex → Float

@@ -4,8 +4,8 @@ use Rattle.model.specs.Blank.{blankState, nodeAt, linkAt, withNode, withLink}
 use Rattle.model.specs.Loops.{through}
 use Rattle.model.specs.declared.project.Project.{Project}
 use Rattle.model.specs.declared.state.State.{State}
-use Rattle.node_turns.specs.Start.{startNode}
-use Rattle.link_turns.specs.Start.{startLink}
+use Rattle.state_node.specs.Start.{startNode}
+use Rattle.state_link.specs.Start.{startLink}
 
 abbrev pub nodeStarted : Project → ℕ → State → State
 nodeStarted p i s = withNode s i (startNode (nodeAt p i))

@@ -4,8 +4,8 @@ ghost use Rattle.tables.specs.Fit.{TablesFit};
 ghost use Rattle.state.specs.Controls.{applyControls};
 use clock::clock_time;
 use control::watched;
-use link_turns::controlled;
 use model::*;
+use state_link::controlled;
 
 pub fn apply_controls(p: Project, s: State) -> State
     requires { ⌜ TablesFit p ⌝ }

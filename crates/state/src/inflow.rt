@@ -3,7 +3,7 @@ ghost use mathlib.Core.Path.{_≡_};
 ghost use Rattle.tables.specs.Fit.{TablesFit};
 ghost use Rattle.state.specs.Inflow.{emptyTanks};
 use model::*;
-use node_turns::emptied;
+use state_node::emptied;
 
 // Every tank's demand from 0.
 pub fn empty_tanks(p: Project, s: State) -> State

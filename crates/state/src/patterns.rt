@@ -7,8 +7,8 @@ ghost use Rattle.pattern_view.specs.View.{multiplierInForce};
 ghost use Rattle.tables.specs.Fit.{TablesFit};
 ghost use Rattle.state.specs.Patterns.{tableOf, applyPatterns};
 use model::*;
-use node_patterns::patterned;
 use pattern_view::multiplier_in_force;
+use state_patterns::patterned;
 
 // The multiplier in force of the pattern whose multipliers begin at a place, by a view of them; none stand past the table's end.
 fn pattern_multiplier(

@@ -2,9 +2,9 @@
 ghost use mathlib.Core.Path.{_≡_};
 ghost use Rattle.tables.specs.Fit.{TablesFit};
 ghost use Rattle.state.specs.Start.{startNodes, startLinks, newWithInitialValues};
-use link_turns::start_link;
 use model::*;
-use node_turns::start_node;
+use state_link::start_link;
+use state_node::start_node;
 
 fn start_nodes(p: Project, s: State) -> State
     requires { ⌜ TablesFit p ⌝ }

@@ -3,7 +3,7 @@ ghost use mathlib.Core.Path.{_≡_};
 ghost use Rattle.tables.specs.Fit.{TablesFit};
 ghost use Rattle.state.specs.Tanks.{updateTanks};
 use model::*;
-use node_turns::moved;
+use state_node::moved;
 
 pub fn update_tanks(p: Project, s: State, seconds: u64) -> State
     requires { ⌜ TablesFit p ⌝ }

@@ -44,16 +44,16 @@ use Rattle.model.specs.declared.rule.Premise.{Premise}
 use Rattle.model.specs.declared.rule.RuleConditionTarget.{RuleConditionTarget}
 use Rattle.model.specs.declared.rule.RuleConditionTarget.the-variants as targets
 use Rattle.model.proofs.Loops.{held-at, both-left, both-right}
-use Rattle.records.specs.Ranges.{timeOk, timestepOk, clockOk, feetOk, diameterOk, numberOk, premiseNumberOk, statusOk, patternIndexOk}
-use Rattle.records.specs.Records.{optionsOk}
-use Rattle.node_records.specs.Records.{tankOk, demandOk, demandsOk, nodeOk, demandIndexOk, demandsIndicesOk, nodeIndicesOk}
-use Rattle.link_records.specs.Records.{linkTypeOk, linkOk, linkIndicesOk}
-use Rattle.control_records.specs.Records.{conditionOk, statusActionOk, settingActionOk, controlOk, conditionIndexOk, controlIndicesOk}
-use Rattle.premise_records.specs.Records.{valueOk, premiseOk, premiseIndicesOk}
-use Rattle.entry_fits.specs.Fits.{countsOk, multiplierOk, multipliersOk, patternOk, nodeFits, linkFits, controlFits, premiseFits}
+use Rattle.table_ranges.specs.Ranges.{timeOk, timestepOk, clockOk, feetOk, diameterOk, numberOk, premiseNumberOk, statusOk, patternIndexOk}
+use Rattle.table_ranges.specs.Records.{optionsOk}
+use Rattle.table_node.specs.Records.{tankOk, demandOk, demandsOk, nodeOk, demandIndexOk, demandsIndicesOk, nodeIndicesOk}
+use Rattle.table_link.specs.Records.{linkTypeOk, linkOk, linkIndicesOk}
+use Rattle.table_control.specs.Records.{conditionOk, statusActionOk, settingActionOk, controlOk, conditionIndexOk, controlIndicesOk}
+use Rattle.table_premise.specs.Records.{valueOk, premiseOk, premiseIndicesOk}
+use Rattle.table_entry.specs.Fits.{countsOk, multiplierOk, multipliersOk, patternOk, nodeFits, linkFits, controlFits, premiseFits}
 use Rattle.tables.specs.Tables.{Few, patternOkAt, patternsOk, nodeFitsAt, nodesOk, linkFitsAt, linksOk, controlFitsAt, controlsOk, premiseFitsAt, premisesOk, tablesOk}
 use Rattle.tables.specs.Fit.{OptionsFit, PatternIndexFit, PatternFit, DemandFit, DemandsFit, NodeFit, LinkTypeFit, LinkFit, ConditionFit, StatusActionFit, SettingActionFit, ControlFit, TargetFit, ValueFit, PremiseFit, TablesFit}
-use Rattle.entry_fits.proofs.Tests.{each}
+use Rattle.table_entry.proofs.Tests.{each}
 
 -- ---- counts
 pub few-of-counts : (c : Counts) → countsOk c ≡ true → Few c

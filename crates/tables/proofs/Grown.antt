@@ -24,13 +24,13 @@ use Rattle.model.specs.declared.pattern.PatternIndex.{PatternIndex}
 use Rattle.model.specs.declared.pattern.PatternIndex.the-variants.{NoPattern, PatternAt}
 use Rattle.model.specs.declared.rule.RuleConditionTarget.{RuleConditionTarget}
 use Rattle.model.specs.declared.rule.RuleConditionTarget.the-variants as targets
-use Rattle.records.specs.Ranges.{patternIndexOk}
-use Rattle.node_records.specs.Records.{demandIndexOk, demandsIndicesOk, nodeIndicesOk}
-use Rattle.link_records.specs.Records.{linkIndicesOk}
-use Rattle.control_records.specs.Records.{conditionIndexOk, controlIndicesOk}
-use Rattle.premise_records.specs.Records.{premiseIndicesOk}
-use Rattle.entry_fits.specs.Fits.{multiplierOk, multipliersOk, patternOk}
-use Rattle.entry_fits.proofs.Tests.{and-grow}
+use Rattle.table_ranges.specs.Ranges.{patternIndexOk}
+use Rattle.table_node.specs.Records.{demandIndexOk, demandsIndicesOk, nodeIndicesOk}
+use Rattle.table_link.specs.Records.{linkIndicesOk}
+use Rattle.table_control.specs.Records.{conditionIndexOk, controlIndicesOk}
+use Rattle.table_premise.specs.Records.{premiseIndicesOk}
+use Rattle.table_entry.specs.Fits.{multiplierOk, multipliersOk, patternOk}
+use Rattle.table_entry.proofs.Tests.{and-grow}
 
 -- ---- a count grows
 pub below-grows : (i : ℕ) {m n : ℕ} → m ≤ n → ltb i m ≡ true → ltb i n ≡ true

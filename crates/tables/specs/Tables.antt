@@ -1,4 +1,4 @@
--- Document 01, number 10: "tables break 4 to 6". The tests are the decoder's own (`records` and the crates of each kind's records), of every entry
+-- Document 01, number 10: "tables break 4 to 6". The tests are the decoder's own (`table_ranges` and the crates of each kind's records), of every entry
 -- below the counts; "entries past the counts are not judged".
 use Prim.Native.Nat.{ℕ, _≤_}
 use mathlib.Core.Bool.{Bool, _&&_}
@@ -7,9 +7,9 @@ use Rattle.model.specs.Loops.{allBelow}
 use Rattle.model.specs.Blank.{nodeAt, linkAt, controlAt, premiseAt}
 use Rattle.model.specs.declared.project.Counts.{Counts}
 use Rattle.model.specs.declared.project.Project.{Project}
-use Rattle.records.specs.Ranges.{patternIndexOk}
-use Rattle.records.specs.Records.{optionsOk}
-use Rattle.entry_fits.specs.Fits.{countsOk, patternOk, nodeFits, linkFits, controlFits, premiseFits}
+use Rattle.table_ranges.specs.Ranges.{patternIndexOk}
+use Rattle.table_ranges.specs.Records.{optionsOk}
+use Rattle.table_entry.specs.Fits.{countsOk, patternOk, nodeFits, linkFits, controlFits, premiseFits}
 
 -- what `countsOk` tests, as facts
 pub record Few (c : Counts) : Type 0 where

@@ -1,10 +1,10 @@
 // The tables' part of number 10: whether tables that anyone may have written keep document 01's limits, entry by entry below the counts.
 ghost use mathlib.Core.Path.{_≡_};
 ghost use Rattle.tables.specs.Tables.{Few, patternsOk, nodesOk, linksOk, controlsOk, premisesOk, tablesOk};
-use entry_fits::*;
 use model::*;
-use records::options_ok;
-use records::pattern_index_ok;
+use table_entry::*;
+use table_ranges::options_ok;
+use table_ranges::pattern_index_ok;
 
 fn patterns_ok(p: Project) -> bool
     requires { ⌜ Few (p .counts) ⌝ }

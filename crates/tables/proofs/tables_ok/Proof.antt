@@ -1,7 +1,7 @@
 -- `tables::tables_ok` meets its contract. Counts that pass are few, as the tests of the tables require; the answer is by what each call ensures. Assumes nothing.
 use Rattle.tables.specs.Tables.{tablesOk}
 use Rattle.tables.proofs.Fits.{few-of-counts}
-use Rattle.entry_fits.proofs.Tests.{failed, passed}
+use Rattle.table_entry.proofs.Tests.{failed, passed}
 use borrow.Author.Needs.{needs}
 use Rattle.tables.proofs.tables_ok.Statement.{statement}
 use Rattle.tables.proofs.tables_ok.Tie as tie

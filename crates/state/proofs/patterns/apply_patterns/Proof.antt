@@ -5,7 +5,7 @@ use native.Mathlib.Omega.{arith}
 use Rattle.model.proofs.Loops.{Ran, begun, turned, ended}
 use Rattle.state.proofs.Table.{table-is}
 use Rattle.state.specs.Patterns.{nodePatterned, applyPatterns}
-use Rattle.node_patterns.specs.Patterns.{tabled}
+use Rattle.state_patterns.specs.Patterns.{tabled}
 use borrow.Author.Needs.{needs}
 use Rattle.state.proofs.patterns.apply_patterns.Statement.{statement}
 use Rattle.state.proofs.patterns.apply_patterns.Tie as tie

@@ -1,0 +1,61 @@
+-- What the functions of the crate promise of a run of turns.
+-- Assumes nothing.
+use Prim.Native.Nat.{ℕ, _-_, _≤_, _<_}
+use mathlib.Core.Path.{_≡_}
+use mathlib.Core.Bool.{Bool, true, false, cond}
+use mathlib.Core.Logic.{_⊎_}
+use mathlib.Core.List.{List, [], _++_}
+use lib.Dec.{ltb, leb, eqb}
+use lib.ListN.{length, take, drop}
+use Rattle.listing.specs.Text.{pasted}
+use Rattle.listing.specs.Listing.{Line, textOf}
+use Rattle.model.specs.declared.project.Project.{Project}
+use Rattle.model.specs.declared.state.State.{State}
+use Rattle.judge.specs.Judgement.{inOrder}
+use Rattle.driver_load.specs.Sizes.{loadBytes}
+use Rattle.driver_chunk.specs.declared.Chunk.{Chunk}
+use Rattle.driver_chunk.specs.Runs.{turns}
+
+-- how many bytes a turn waits for, a load's where fewer are left: 0 where no more come, and at the duration, where none is read
+abbrev pub wantsInput : ℕ → ℕ → Bool → ℕ → ℕ → ℕ
+wantsInput duration instant whole left size = cond whole 0 (cond (ltb instant duration) (cond (ltb left size) size 0) 0)
+
+-- whether there is room for a line, and input for a turn
+abbrev pub canTurn : Bool → ℕ → ℕ → Bool
+canTurn over wants room = cond over false (cond (eqb wants 0) (leb 22 room) false)
+
+-- r is a run of turns from s on the input, whatever may come after the input; its text stands at the start of the buffer.
+-- How many turns there are is left free, but that there is one wherever there can be.
+pub record Ran (p : Project) (s : State) (input : List ℕ) (whole : Bool) (before after : List ℕ) (r : Chunk) : Type 0 where
+  pub count : ℕ
+  pub lines : List Line
+  pub accepted : r .number ≡ 0
+  pub made : after ≡ pasted before 0 (textOf lines)
+  pub written : r .written ≡ length (textOf lines)
+  pub room : r .written ≤ length before
+  pub used : r .used ≤ length input
+  pub ran :
+      (more : List ℕ) (had : List Line) → (whole ≡ true → more ≡ []) →
+      turns count p (record { state = s; left = input ++ more; lines = had; over = false })
+      ≡ record { state = r .state; left = drop (r .used) input ++ more; lines = had ++ lines; over = r .over }
+  pub ordered : inOrder p (r .state) ≡ true
+  pub wants : r .wants ≡ wantsInput (p .options .duration) (r .state .clock .instant) whole (length input - r .used) (loadBytes p)
+  pub goes : r .over ≡ false → 22 ≤ length before → (s .clock .instant < r .state .clock .instant) ⊎ ((r .wants ≡ 0 → ⊥) × (s .clock .instant ≡ r .state .clock .instant))
+  pub moves : r .over ≡ false → 22 ≤ length before → (whole ≡ true) ⊎ (loadBytes p ≤ length input) → s .clock .instant < r .state .clock .instant
+
+-- "every later call, first: 10"; "a refused call yields the number and the same state"
+abbrev pub refusedChunk : State → Chunk
+refusedChunk s = record { number = 10; state = s; used = 0; written = 0; over = true; wants = 0 }
+
+pub record Advanced (p : Project) (s : State) (input : List ℕ) (whole : Bool) (before after : List ℕ) (r : Chunk) : Type 0 where
+  pub refused : inOrder p s ≡ false → (r ≡ refusedChunk s) × (after ≡ before)
+  pub ran : inOrder p s ≡ true → Ran p s input whole before after r
+
+-- A run made in chunks, as the program makes it: from s on the bytes, with the text that it writes in all. Each chunk is given a front of the bytes
+-- that are left; where it is told that no more comes, there is no more.
+pub data Chunked (p : Project) : State → List ℕ → List ℕ → Type 0 where
+  last : {s : State} {input rest : List ℕ} {whole : Bool} {before after : List ℕ} {r : Chunk} → Advanced p s input whole before after r
+      → (whole ≡ true → rest ≡ []) → r .over ≡ true → Chunked p s (input ++ rest) (take (r .written) after)
+  more : {s : State} {input rest : List ℕ} {whole : Bool} {before after : List ℕ} {r : Chunk} {text : List ℕ} → Advanced p s input whole before after r
+      → (whole ≡ true → rest ≡ []) → r .over ≡ false → Chunked p (r .state) (drop (r .used) input ++ rest) text
+      → Chunked p s (input ++ rest) (take (r .written) after ++ text)

@@ -1,0 +1,39 @@
+// What the driver's input begins with: the count of the image's words, and the image.
+ghost use mathlib.Core.Path.{_≡_};
+ghost use Prim.Native.Nat.{_/_, min, _≤_};
+ghost use lib.ListN.{length};
+ghost use Rattle.image.specs.Image.{decode};
+ghost use Rattle.words.specs.Words.{firstWords};
+ghost use Rattle.driver_image.specs.Opening.{imageWords};
+use image::Decoded;
+
+// How many words the image has, by the first four bytes of the input, or 0 where they are refused.
+pub fn image_words(head: &[u8]) -> usize
+    ensures { λ r. ⌜ r ≡ imageWords (now (head .entry)) ⌝ }
+    ensures { λ r. ⌜ r ≤ 16384 ⌝ }
+{
+    if head.len() < 4 {
+        return 0;
+    }
+    let n = words::word_at(head, 0);
+    if 16384 < n {
+        return 0;
+    }
+    n as usize
+}
+
+// Room for the words of an image.
+fn image_space() -> [u32; 16384]
+    ensures { λ r. ⌜ 16384 ≡ length r ⌝ }
+{
+    [0; 16384]
+}
+
+// The tables of an image, or the number of its fault. Words past the 16,384th are not looked at.
+pub fn open(bytes: &[u8]) -> Decoded
+    ensures { λ r. ⌜ r ≡ decode (firstWords (min (length (now (bytes .entry)) / 4) 16384) (now (bytes .entry))) ⌝ }
+{
+    let mut words = image_space();
+    let n = words::words_of(bytes, &mut words);
+    image::decode(&words[..n])
+}

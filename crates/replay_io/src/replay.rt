@@ -1,0 +1,109 @@
+// The run of a list that comes in by a descriptor.
+use image::Decoded;
+use model::*;
+use replay_input::read_bytes;
+use replay_input::read_call;
+use replay_input::read_image;
+use replay_text::put_call_line;
+use replay_text::put_start_line;
+
+// The number of a list that is cut or has another code.
+const BAD_LIST: u32 = 18;
+
+// Writes the first n bytes of a line.
+fn write(to: i32, out: &[u8], n: usize) {
+    if n <= out.len() {
+        io::write_all(to, &out[..n]);
+    }
+}
+
+fn refuse(to: i32, out: &mut [u8], number: u32) {
+    let n = listing::put_refused_line(out, 0, number);
+    write(to, out, n);
+}
+
+// Runs the call at the start of a table, prints its line, and answers the state after it.
+fn replay_call(to: i32, p: Project, s: State, call: &[u32], out: &mut [u8]) -> State {
+    let code = image_entry::word(call, 0);
+    let o = list_call::call(p, s, call);
+    let state = o.state;
+    let n = put_call_line(out, code, o.number, o.length, o.truth, p.counts, state);
+    write(to, out, n);
+    state
+}
+
+// Whether a call was read, and its code is one that there is.
+fn is_call(k: usize, code: u32) -> bool {
+    if k < 1 {
+        return false;
+    }
+    if code < 1 {
+        return false;
+    }
+    code <= 7
+}
+
+// The list of n calls, read and run as they come.
+fn replay_calls(
+    from: i32,
+    to: i32,
+    p: Project,
+    s: State,
+    n: u32,
+    table: &mut [u32],
+    bytes: &mut [u8],
+    out: &mut [u8],
+) {
+    let mut state = s;
+    let mut i = 0;
+    while i < n {
+        let k = read_call(from, bytes, table);
+        if !is_call(k, image_entry::word(table, 0)) {
+            refuse(to, out, BAD_LIST);
+            return;
+        }
+        state = replay_call(to, p, state, table, out);
+        i += 1;
+    }
+}
+
+// The start of an accepted project, the count of calls, and the calls.
+fn replay_project(
+    from: i32,
+    to: i32,
+    p: Project,
+    table: &mut [u32],
+    bytes: &mut [u8],
+    out: &mut [u8],
+) {
+    let started = calls::new_with_initial_values(p);
+    let state = started.state;
+    let n = put_start_line(out, p.counts, state);
+    write(to, out, n);
+    if !read_bytes(from, bytes, 0, 4) {
+        refuse(to, out, BAD_LIST);
+        return;
+    }
+    let calls = words::word_at(bytes, 0);
+    replay_calls(from, to, p, state, calls, table, bytes, out);
+}
+
+fn decode_image(table: &[u32], n: usize) -> Decoded {
+    if table.len() < n {
+        return image::decode(table);
+    }
+    image::decode(&table[..n])
+}
+
+// Reads an image and a list of calls, and prints the transcript.
+pub fn transcribe(from: i32, to: i32, table: &mut [u32], bytes: &mut [u8], out: &mut [u8]) {
+    let n = read_image(from, bytes, table);
+    let read = decode_image(table, n);
+    let fault = read.fault;
+    let project = read.project;
+    if fault != 0 {
+        refuse(to, out, fault);
+        return;
+    }
+    replay_project(from, to, project, table, bytes, out);
+}

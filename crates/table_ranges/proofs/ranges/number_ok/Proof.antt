@@ -1,0 +1,17 @@
+-- `records::ranges::number_ok` meets its contract. Assumes nothing.
+use Rattle.table_ranges.specs.Ranges.{numberOk}
+use lib.Ieee.{ofBits}
+use Rattle.number.specs.Constants.{decimal}
+use borrow.Author.Needs.{needs}
+use Rattle.table_ranges.proofs.ranges.number_ok.Statement.{statement}
+use Rattle.table_ranges.proofs.ranges.number_ok.Tie as tie
+
+within-requires : tie.Need-within-requires
+within-requires c κs = search needs
+
+returns : tie.Need-returns
+unfolding numberOk decimal ofBits
+returns c = c .within .ensures
+
+pub number-ok-spec : {M : Type 1} → statement M
+number-ok-spec = tie.close (tie.spec within-requires returns)
