@@ -1,5 +1,5 @@
 // The driver between two descriptors: it reads an image and loads, and writes the listing. This crate only moves bytes; what they are is put
-// together by the crates opening and session. No contract can say what is read or written: the law `image-accepted` of printed says that the
+// together by `driver_image` and `driver_chunk`. No contract can say what is read or written: the law `image-accepted` of `driver_printed` says that the
 // chunks' texts, written one after the other, are what document 01 asks for.
 use model::Project;
 ghost use Prim.Native.Nat.{_+_, _-_, _≤_};

@@ -1,5 +1,5 @@
 -- Document 01, "The project image": what the payload of each kind of node says, and "Numbers by the place of the check": the first of 4, 5 and 6 that it breaks.
--- The tests of what it says are those of the tables (node_records/specs); those that only the words can break stand here.
+-- The tests of what it says are those of the tables (table_node/specs); those that only the words can break stand here.
 use Prim.Native.Nat.{ℕ, _+_}
 use mathlib.Core.Bool.{Bool, true, _&&_, cond}
 use mathlib.Core.List.{List}

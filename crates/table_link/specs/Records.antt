@@ -1,5 +1,5 @@
 -- What a link of the tables (kind 6) has to satisfy: number 5, by the record alone, and number 6, by what is declared.
--- What cannot be written in the tables is judged by the words of an image (link_entries/specs).
+-- What cannot be written in the tables is judged by the words of an image (image_link/specs).
 use Prim.Native.Nat.{ℕ}
 use mathlib.Core.Bool.{Bool, _&&_, not}
 use lib.Dec.{ltb, eqb}

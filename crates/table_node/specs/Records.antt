@@ -1,5 +1,5 @@
 -- What a node of the tables (3 reservoir, 4 tank, 5 junction) has to satisfy: number 5, by the record alone, and number 6, by what is declared.
--- What cannot be written in the tables is judged by the words of an image (node_entries/specs).
+-- What cannot be written in the tables is judged by the words of an image (image_node/specs).
 use Prim.Native.Nat.{ℕ}
 use mathlib.Core.Bool.{Bool, true, _&&_}
 use lib.Ieee.{le}

@@ -1,5 +1,5 @@
 -- What a premise of the tables (kind 8) has to satisfy: number 5, by the record alone, and number 6, by what is declared.
--- What cannot be written in the tables is judged by the words of an image (premise_entries/specs).
+-- What cannot be written in the tables is judged by the words of an image (image_premise/specs).
 use Prim.Native.Nat.{ℕ}
 use mathlib.Core.Bool.{Bool, true}
 use lib.Dec.{ltb}

@@ -1,5 +1,5 @@
 -- What the options of the tables have to satisfy: number 5. What cannot be written in the tables is judged by the words of an image
--- (options_entries/specs).
+-- (image_options/specs).
 use mathlib.Core.Bool.{Bool, _&&_}
 use Rattle.model.specs.declared.options.Options.{Options}
 use Rattle.table_ranges.specs.Ranges.{timeOk, timestepOk, clockOk, numberOk}

@@ -1,4 +1,4 @@
--- `session::advance` meets its contract: the judgement decides which half of the promise is asked. Assumes nothing.
+-- `driver_chunk::advance` meets its contract: the judgement decides which half of the promise is asked. Assumes nothing.
 use mathlib.Core.Path.{refl, sym, _∙_}
 use mathlib.Core.Bool.{true≢false}
 use borrow.Author.Tests.{not-true, not-false}

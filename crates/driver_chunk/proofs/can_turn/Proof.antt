@@ -1,4 +1,4 @@
--- `session::can_turn` meets its contract. Assumes nothing.
+-- `driver_chunk::can_turn` meets its contract. Assumes nothing.
 use borrow.Author.Tests.{eq-eqb, ne-eqb}
 use borrow.Author.Needs.{needs}
 use Rattle.driver_chunk.proofs.can_turn.Statement.{statement}

@@ -1,4 +1,4 @@
--- `session::run` meets its contract: the turns so far are the invariant. Assumes nothing.
+-- `driver_chunk::run` meets its contract: the turns so far are the invariant. Assumes nothing.
 use Prim.Native.Nat.{ℕ, _+_, _-_, _*_}
 use mathlib.Core.Path.{_≡_, sym, ap, _∙_}
 use mathlib.Core.Bool.{cond}

@@ -1,4 +1,4 @@
--- `session::wants_input` meets its contract. Assumes nothing.
+-- `driver_chunk::wants_input` meets its contract. Assumes nothing.
 use borrow.Author.Tests.{lt-ltb, le-ltb}
 use Rattle.driver_chunk.proofs.wants_input.Statement.{statement}
 use Rattle.driver_chunk.proofs.wants_input.Tie as tie

@@ -1,4 +1,4 @@
--- `opening::image_words` meets its contract. Assumes nothing.
+-- `driver_image::image_words` meets its contract. Assumes nothing.
 use Rattle.driver_image.proofs.Counting.{count-none, count-large, count-good}
 use borrow.Author.Needs.{needs}
 use Rattle.driver_image.proofs.image_words.Statement.{statement}

@@ -1,4 +1,4 @@
--- `opening::open` meets its contract. Assumes nothing.
+-- `driver_image::open` meets its contract. Assumes nothing.
 use Prim.Native.Nat.{_/_, min}
 use mathlib.Core.Path.{sym, ap, _∙_}
 use lib.ListN.{length}

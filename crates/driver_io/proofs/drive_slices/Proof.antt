@@ -1,4 +1,4 @@
--- `drive::drive_slices` meets its contract. Assumes nothing.
+-- `driver_io::drive_slices` meets its contract. Assumes nothing.
 use mathlib.Core.Path.{sym}
 use lib.ListN.{length-append}
 use lib.Seq.{length-take-le}

@@ -1,4 +1,4 @@
--- `drive::read_until` meets its contract: the bytes in front stay. Assumes nothing.
+-- `driver_io::read_until` meets its contract: the bytes in front stay. Assumes nothing.
 use Prim.Native.Nat.{_-_, _≤_}
 use mathlib.Core.Path.{_≡_, refl, _∙_}
 use lib.ListN.{length, take}

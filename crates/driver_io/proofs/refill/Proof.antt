@@ -1,4 +1,4 @@
--- `drive::refill` meets its contract: the bytes at hand come to the front and stay there. Assumes nothing.
+-- `driver_io::refill` meets its contract: the bytes at hand come to the front and stay there. Assumes nothing.
 use mathlib.Core.Path.{refl}
 use Rattle.driver_io.proofs.Shifting.{filled}
 use borrow.Author.Needs.{needs}

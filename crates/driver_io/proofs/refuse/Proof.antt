@@ -1,4 +1,4 @@
--- `drive::refuse` meets its contract. Assumes nothing.
+-- `driver_io::refuse` meets its contract. Assumes nothing.
 use mathlib.Core.Path.{sym}
 use lib.Seq.{length-take-le}
 use Rattle.listing.specs.Listing.{refusedLine}

@@ -1,4 +1,4 @@
--- `drive::run` meets its contract: a chunk moves the clock, or waits for what is then read. Assumes nothing.
+-- `driver_io::run` meets its contract: a chunk moves the clock, or waits for what is then read. Assumes nothing.
 use mathlib.Core.Path.{refl, sym, _∙_}
 use mathlib.Core.Logic.{inl, inr, ⊎-elim}
 use borrow.Author.Tests.{not-true}

@@ -1,4 +1,4 @@
--- `drive::shift` meets its contract: what has been moved is the front of the buffer. Assumes nothing.
+-- `driver_io::shift` meets its contract: what has been moved is the front of the buffer. Assumes nothing.
 use Prim.Native.Nat.{_+_, _-_, _≤_}
 use mathlib.Core.Path.{_≡_, refl}
 use mathlib.Core.List.{_++_}

@@ -1,4 +1,4 @@
--- `load_bytes::load_from` meets its contract: the words are lent, filled and read. Assumes nothing.
+-- `driver_load::load_from` meets its contract: the words are lent, filled and read. Assumes nothing.
 use Prim.Native.Nat.{ℕ, _*_, _≤_}
 use mathlib.Core.Path.{sym, ap, _∙_}
 use mathlib.Core.List.{List}

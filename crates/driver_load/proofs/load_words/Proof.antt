@@ -1,4 +1,4 @@
--- `load_bytes::load_words` meets its contract. Assumes nothing.
+-- `driver_load::load_words` meets its contract. Assumes nothing.
 use Prim.Native.Nat.{ℕ, _+_, _*_}
 use mathlib.Core.Path.{ap}
 use Rattle.load.proofs.Values.{values-most-fit}

@@ -1,4 +1,4 @@
--- `load_bytes::take` meets its contract. Assumes nothing.
+-- `driver_load::take` meets its contract. Assumes nothing.
 use borrow.Author.Tests.{eq-eqb, ne-eqb}
 use Rattle.driver_load.proofs.Inner.{fit, load-inner}
 use Rattle.driver_load.proofs.take.Statement.{statement}

@@ -1,4 +1,4 @@
--- `turns::finished_turn` meets its contract. Assumes nothing.
+-- `driver_turn::finished_turn` meets its contract. Assumes nothing.
 use Rattle.listing.specs.Listing.{Line}
 use Rattle.driver_turn.proofs.Cases.{ended-as}
 use borrow.Author.Needs.{needs}

@@ -1,4 +1,4 @@
--- `turns::input_turn` meets its contract: one law a case. Assumes nothing.
+-- `driver_turn::input_turn` meets its contract: one law a case. Assumes nothing.
 use Rattle.driver_load.proofs.Inner.{fit}
 use Rattle.driver_turn.proofs.Cases.{turned-as, input-none, input-cut, input-taken, input-refused, answer-in-order}
 use borrow.Author.Needs.{needs}

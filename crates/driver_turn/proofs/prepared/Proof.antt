@@ -1,4 +1,4 @@
--- `turns::prepared` meets its contract: on a state in order the public calls are the functions behind them. Assumes nothing.
+-- `driver_turn::prepared` meets its contract: on a state in order the public calls are the functions behind them. Assumes nothing.
 use mathlib.Core.Path.{sym, _∙_}
 use Rattle.driver_load.proofs.Inner.{fit}
 use Rattle.driver_turn.proofs.Inner.{prepared-inner}

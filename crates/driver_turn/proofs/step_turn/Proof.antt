@@ -1,4 +1,4 @@
--- `turns::step_turn` meets its contract: on a state in order the public calls are the functions behind them. Assumes nothing.
+-- `driver_turn::step_turn` meets its contract: on a state in order the public calls are the functions behind them. Assumes nothing.
 use Rattle.driver_load.proofs.Inner.{fit}
 use Rattle.driver_turn.proofs.Cases.{step-made}
 use borrow.Author.Needs.{needs}

@@ -1,4 +1,4 @@
--- `turns::turn` meets its contract: one law a case. Assumes nothing.
+-- `driver_turn::turn` meets its contract: one law a case. Assumes nothing.
 use Rattle.driver_turn.proofs.Inner.{prepared-in-order}
 use Rattle.driver_turn.proofs.Cases.{turned-as, turn-finished, turn-goes}
 use borrow.Author.Needs.{needs}

@@ -1,4 +1,4 @@
--- `control_entries::condition_of` meets its contract. By the code that each test names, and at last by all the tests. Assumes nothing.
+-- `image_control::condition_of` meets its contract. By the code that each test names, and at last by all the tests. Assumes nothing.
 use Rattle.image_control.specs.Entries.{conditionOf}
 use borrow.Author.Tests.{ne-eqb}
 use Rattle.image_control.proofs.condition_of.Statement.{statement}

@@ -1,4 +1,4 @@
--- `control_entries::setting_action_of` meets its contract. By the two cases of the test. Assumes nothing.
+-- `image_control::setting_action_of` meets its contract. By the two cases of the test. Assumes nothing.
 use Rattle.image_control.specs.Entries.{settingActionOf}
 use Rattle.image_control.proofs.setting_action_of.Statement.{statement}
 use Rattle.image_control.proofs.setting_action_of.Tie as tie

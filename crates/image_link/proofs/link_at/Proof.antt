@@ -1,4 +1,4 @@
--- `link_entries::link_at` meets its contract. The calls' equations, by congruence. Assumes nothing.
+-- `image_link::link_at` meets its contract. The calls' equations, by congruence. Assumes nothing.
 use Rattle.image_link.specs.Entries.{linkAt}
 use borrow.Author.Needs.{needs}
 use Rattle.image_link.proofs.link_at.Statement.{statement}

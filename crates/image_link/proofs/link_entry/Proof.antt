@@ -1,4 +1,4 @@
--- `link_entries::link_entry` meets its contract. The calls' equations, by congruence. Assumes nothing.
+-- `image_link::link_entry` meets its contract. The calls' equations, by congruence. Assumes nothing.
 use Rattle.image_link.specs.Entries.{linkEntry}
 use borrow.Author.Needs.{needs}
 use Rattle.image_link.proofs.link_entry.Statement.{statement}

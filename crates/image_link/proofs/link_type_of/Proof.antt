@@ -1,4 +1,4 @@
--- `link_entries::link_type_of` meets its contract. By the code that each test names, and at last by all the tests. Assumes nothing.
+-- `image_link::link_type_of` meets its contract. By the code that each test names, and at last by all the tests. Assumes nothing.
 use Rattle.image_link.specs.Entries.{linkTypeOf}
 use borrow.Author.Tests.{ne-eqb}
 use Rattle.image_link.proofs.link_type_of.Statement.{statement}

@@ -1,4 +1,4 @@
--- `node_entries::demand_at` meets its contract. The calls' equations, by congruence. Assumes nothing.
+-- `image_node::demand_at` meets its contract. The calls' equations, by congruence. Assumes nothing.
 use Rattle.image_node.specs.Entries.{demandAt}
 use borrow.Author.Needs.{needs}
 use Rattle.image_node.proofs.demand_at.Statement.{statement}

@@ -1,4 +1,4 @@
--- `node_entries::demands_at` meets its contract. Each answer by the tests of the size, and by its demands. Assumes nothing.
+-- `image_node::demands_at` meets its contract. Each answer by the tests of the size, and by its demands. Assumes nothing.
 use Rattle.image_node.specs.Entries.{demandsAt}
 use borrow.Author.Tests.{lt-ltb, le-ltb}
 use lib.ListN.{length}

@@ -1,4 +1,4 @@
--- `node_entries::node_entry` meets its contract. The calls' equations, by congruence. Assumes nothing.
+-- `image_node::node_entry` meets its contract. The calls' equations, by congruence. Assumes nothing.
 use Rattle.image_node.specs.Entries.{nodeEntry}
 use borrow.Author.Needs.{needs}
 use Rattle.image_node.proofs.node_entry.Statement.{statement}

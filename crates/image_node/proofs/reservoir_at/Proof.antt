@@ -1,4 +1,4 @@
--- `node_entries::reservoir_at` meets its contract. The calls' equations, by congruence. Assumes nothing.
+-- `image_node::reservoir_at` meets its contract. The calls' equations, by congruence. Assumes nothing.
 use Rattle.image_node.specs.Entries.{reservoirAt}
 use borrow.Author.Needs.{needs}
 use Rattle.image_node.proofs.reservoir_at.Statement.{statement}

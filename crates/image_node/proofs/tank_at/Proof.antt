@@ -1,4 +1,4 @@
--- `node_entries::tank_at` meets its contract. The calls' equations. Assumes nothing.
+-- `image_node::tank_at` meets its contract. The calls' equations. Assumes nothing.
 use Rattle.image_node.specs.Entries.{tankAt}
 use borrow.Author.Needs.{needs}
 use Rattle.image_node.proofs.tank_at.Statement.{statement}

@@ -1,4 +1,4 @@
--- `node_entries::tank_entry` meets its contract. The calls' equations, by congruence. Assumes nothing.
+-- `image_node::tank_entry` meets its contract. The calls' equations, by congruence. Assumes nothing.
 use Rattle.image_node.specs.Entries.{tankEntry}
 use borrow.Author.Needs.{needs}
 use Rattle.image_node.proofs.tank_entry.Statement.{statement}

@@ -1,4 +1,4 @@
--- `pattern_entries::multipliers_ok` meets its contract. The loop's invariant is that the test holds at each index passed, and it returns where
+-- `image_pattern::multipliers_ok` meets its contract. The loop's invariant is that the test holds at each index passed, and it returns where
 -- one fails. Assumes nothing.
 use Prim.Native.Nat.{_-_}
 use mathlib.Core.Path.{_≡_, refl, sym, _∙_}

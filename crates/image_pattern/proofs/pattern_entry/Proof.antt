@@ -1,4 +1,4 @@
--- `pattern_entries::pattern_entry` meets its contract. The calls' equations, by congruence. Assumes nothing.
+-- `image_pattern::pattern_entry` meets its contract. The calls' equations, by congruence. Assumes nothing.
 use Rattle.image_pattern.specs.Entries.{patternEntry}
 use borrow.Author.Needs.{needs}
 use Rattle.image_pattern.proofs.pattern_entry.Statement.{statement}

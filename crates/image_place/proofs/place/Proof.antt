@@ -1,4 +1,4 @@
--- `placing::place` meets its contract. By the cases of the entry: there is room for it, and it is put in. Assumes nothing.
+-- `image_place::place` meets its contract. By the cases of the entry: there is room for it, and it is put in. Assumes nothing.
 use Rattle.image_place.specs.Placed.{placed, Room}
 use Rattle.image_entry.specs.declared.entry.Entry.{Entry}
 use denote.Ref.{now}

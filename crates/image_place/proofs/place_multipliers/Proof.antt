@@ -1,4 +1,4 @@
--- `placing::place_multipliers` meets its contract. The loop's invariant is that i multipliers are put in. Assumes nothing.
+-- `image_place::place_multipliers` meets its contract. The loop's invariant is that i multipliers are put in. Assumes nothing.
 use Prim.Native.Nat.{_-_}
 use mathlib.Core.Path.{refl}
 use Rattle.model.proofs.Loops.{Ran, begun, turned, ended}

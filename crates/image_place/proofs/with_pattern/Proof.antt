@@ -1,4 +1,4 @@
--- `placing::with_pattern` meets its contract. By what `place_multipliers` makes of the multipliers. Assumes nothing.
+-- `image_place::with_pattern` meets its contract. By what `place_multipliers` makes of the multipliers. Assumes nothing.
 use borrow.Author.Needs.{needs}
 use Rattle.image_place.proofs.with_pattern.Statement.{statement}
 use Rattle.image_place.proofs.with_pattern.Tie as tie

@@ -1,4 +1,4 @@
--- `premise_entries::comparison_of` meets its contract. By the code that each test names, and at last by all the tests. Assumes nothing.
+-- `image_premise::comparison_of` meets its contract. By the code that each test names, and at last by all the tests. Assumes nothing.
 use Rattle.image_premise.specs.Entries.{comparisonOf}
 use borrow.Author.Tests.{ne-eqb}
 use Rattle.image_premise.proofs.comparison_of.Statement.{statement}

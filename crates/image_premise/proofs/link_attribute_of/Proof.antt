@@ -1,4 +1,4 @@
--- `premise_entries::link_attribute_of` meets its contract. By the code that each test names, and at last by all the tests. Assumes nothing.
+-- `image_premise::link_attribute_of` meets its contract. By the code that each test names, and at last by all the tests. Assumes nothing.
 use Rattle.image_premise.specs.Entries.{linkAttributeOf}
 use borrow.Author.Tests.{ne-eqb}
 use Rattle.image_premise.proofs.link_attribute_of.Statement.{statement}

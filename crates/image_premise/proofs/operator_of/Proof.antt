@@ -1,4 +1,4 @@
--- `premise_entries::operator_of` meets its contract. By the two cases of the test. Assumes nothing.
+-- `image_premise::operator_of` meets its contract. By the two cases of the test. Assumes nothing.
 use Rattle.image_premise.specs.Entries.{operatorOf}
 use borrow.Author.Tests.{ne-eqb}
 use Rattle.image_premise.proofs.operator_of.Statement.{statement}

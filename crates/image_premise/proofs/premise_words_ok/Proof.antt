@@ -1,4 +1,4 @@
--- `premise_entries::premise_words_ok` meets its contract. The calls' equations, by congruence. Assumes nothing.
+-- `image_premise::premise_words_ok` meets its contract. The calls' equations, by congruence. Assumes nothing.
 use Rattle.image_premise.specs.Entries.{premiseWordsOk}
 use borrow.Author.Needs.{needs}
 use Rattle.image_premise.proofs.premise_words_ok.Statement.{statement}

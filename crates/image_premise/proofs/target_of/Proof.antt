@@ -1,4 +1,4 @@
--- `premise_entries::target_of` meets its contract. Each answer by its tests, and by the attribute that the code names. Assumes nothing.
+-- `image_premise::target_of` meets its contract. Each answer by its tests, and by the attribute that the code names. Assumes nothing.
 use Rattle.image_premise.specs.Entries.{targetOf}
 use borrow.Author.Tests.{le-leb, lt-leb}
 use borrow.Author.Needs.{needs}

@@ -1,4 +1,4 @@
--- `premise_entries::value_of` meets its contract. By the code that each test names, and at last by all the tests. Assumes nothing.
+-- `image_premise::value_of` meets its contract. By the code that each test names, and at last by all the tests. Assumes nothing.
 use Rattle.image_premise.specs.Entries.{valueOf}
 use borrow.Author.Tests.{ne-eqb}
 use borrow.Author.Needs.{needs}

@@ -1,4 +1,4 @@
--- `framing::entry_of` meets its contract. Each answer by the tests of the kind, and by the entry of that kind. Assumes nothing.
+-- `image_record::entry_of` meets its contract. Each answer by the tests of the kind, and by the entry of that kind. Assumes nothing.
 use Rattle.image_record.specs.Framing.{entryOf}
 use borrow.Author.Tests.{ne-eqb}
 use borrow.Author.Needs.{needs}

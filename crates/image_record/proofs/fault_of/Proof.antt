@@ -1,4 +1,4 @@
--- `framing::fault_of` meets its contract. By the cases of the entry. Assumes nothing.
+-- `image_record::fault_of` meets its contract. By the cases of the entry. Assumes nothing.
 use Rattle.image_record.specs.Framing.{faultOf}
 use borrow.Author.Needs.{needs}
 use Rattle.image_record.proofs.fault_of.Statement.{statement}

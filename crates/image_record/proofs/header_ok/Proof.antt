@@ -1,4 +1,4 @@
--- `framing::header_ok` meets its contract. The calls' equations, by congruence. Assumes nothing.
+-- `image_record::header_ok` meets its contract. The calls' equations, by congruence. Assumes nothing.
 use Rattle.image_record.specs.Framing.{headerOk}
 use borrow.Author.Needs.{needs}
 use Rattle.image_record.proofs.header_ok.Statement.{statement}

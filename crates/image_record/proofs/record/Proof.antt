@@ -1,4 +1,4 @@
--- `framing::record` meets its contract. The three ways of a record: by its header, by its size, and by its payload. Assumes nothing.
+-- `image_record::record` meets its contract. The three ways of a record: by its header, by its size, and by its payload. Assumes nothing.
 use Prim.Native.Nat.{ℕ}
 use mathlib.Core.Path.{_≡_, sym, ap, _∙_}
 use mathlib.Core.Bool.{true, false}

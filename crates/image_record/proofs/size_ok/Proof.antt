@@ -1,4 +1,4 @@
--- `framing::size_ok` meets its contract. By the kind that each test names, and at last by all the tests. Assumes nothing.
+-- `image_record::size_ok` meets its contract. By the kind that each test names, and at last by all the tests. Assumes nothing.
 use Rattle.image_record.specs.Framing.{sizeOk}
 use borrow.Author.Tests.{ne-eqb}
 use Rattle.image_record.proofs.size_ok.Statement.{statement}

@@ -1,4 +1,4 @@
--- `framing::stage_of` meets its contract. By the kind that each test names, and at last by all the tests. Assumes nothing.
+-- `image_record::stage_of` meets its contract. By the kind that each test names, and at last by all the tests. Assumes nothing.
 use Rattle.image_record.specs.Framing.{stageOf}
 use borrow.Author.Tests.{ne-eqb}
 use Rattle.image_record.proofs.stage_of.Statement.{statement}

@@ -1,4 +1,4 @@
--- `framing::stage_ok` meets its contract. By the two cases of the test. Assumes nothing.
+-- `image_record::stage_ok` meets its contract. By the two cases of the test. Assumes nothing.
 use Rattle.image_record.specs.Framing.{stageOk}
 use borrow.Author.Tests.{ne-eqb}
 use borrow.Author.Needs.{needs}

@@ -1,4 +1,4 @@
--- `run_call::asked` meets its contract. Assumes nothing.
+-- `list_call::asked` meets its contract. Assumes nothing.
 use borrow.Author.Needs.{needs}
 use Rattle.list_call.proofs.asked.Statement.{statement}
 use Rattle.list_call.proofs.asked.Tie as tie

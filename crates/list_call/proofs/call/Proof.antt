@@ -1,4 +1,4 @@
--- `run_call::call` meets its contract. Assumes nothing.
+-- `list_call::call` meets its contract. Assumes nothing.
 use mathlib.Core.Path.{sym, ap, _∙_}
 use denote.Ref.{now}
 use Rattle.list_words.proofs.Codes.{code-1, code-2, code-3, code-4, code-5, code-6, code-7}

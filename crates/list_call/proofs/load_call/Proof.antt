@@ -1,4 +1,4 @@
--- `run_call::load_call` meets its contract. Past the words there is nothing to take. Assumes nothing.
+-- `list_call::load_call` meets its contract. Past the words there is nothing to take. Assumes nothing.
 use Prim.Native.Nat.{ℕ, _+_, _-_, _≤_, _<_}
 use mathlib.Core.Path.{_≡_, sym, ap, _∙_}
 use mathlib.Core.List.{List, []}

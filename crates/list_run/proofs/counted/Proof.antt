@@ -1,4 +1,4 @@
--- `run_list::counted` meets its contract. Assumes nothing.
+-- `list_run::counted` meets its contract. Assumes nothing.
 use mathlib.Core.Path.{sym, ap, _∙_}
 use native.Mathlib.Omega.{arith}
 use denote.Ref.{now}

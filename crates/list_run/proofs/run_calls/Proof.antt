@@ -1,4 +1,4 @@
--- `run_list::run_calls` meets its contract. Assumes nothing.
+-- `list_run::run_calls` meets its contract. Assumes nothing.
 use Prim.Native.Nat.{_-_}
 use mathlib.Core.Path.{sym, ap, _∙_}
 use native.Mathlib.Omega.{arith}

@@ -1,4 +1,4 @@
--- `run_list::run_list` meets its contract. Assumes nothing.
+-- `list_run::run_list` meets its contract. Assumes nothing.
 use Prim.Native.Nat.{ℕ, _≤_}
 use mathlib.Core.Path.{_≡_, refl, sym, ap, _∙_}
 use mathlib.Core.Bool.{Bool, true, false, cond}

@@ -1,4 +1,4 @@
--- `call_input::pass_words` meets its contract. Assumes nothing.
+-- `replay_input::pass_words` meets its contract. Assumes nothing.
 use Prim.Native.Nat.{_-_}
 use mathlib.Core.Path.{_≡_}
 use lib.ListN.{length}

@@ -1,4 +1,4 @@
--- `call_input::words_in` meets its contract. Assumes nothing.
+-- `replay_input::words_in` meets its contract. Assumes nothing.
 use mathlib.Core.Path.{sym}
 use native.Mathlib.Omega.{arith}
 use denote.Ref.{now}

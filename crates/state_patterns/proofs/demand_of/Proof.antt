@@ -1,4 +1,4 @@
--- `node_patterns::demand_of` meets its contract. Assumes nothing.
+-- `state_patterns::demand_of` meets its contract. Assumes nothing.
 use Rattle.state_patterns.specs.Patterns.{demandOf}
 use borrow.Author.Needs.{needs}
 use Rattle.state_patterns.proofs.demand_of.Statement.{statement}

@@ -1,4 +1,4 @@
--- `node_patterns::or_default` meets its contract. Assumes nothing.
+-- `state_patterns::or_default` meets its contract. Assumes nothing.
 use borrow.Author.Needs.{needs}
 use Rattle.state_patterns.proofs.or_default.Statement.{statement}
 use Rattle.state_patterns.proofs.or_default.Tie as tie

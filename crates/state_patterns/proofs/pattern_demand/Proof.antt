@@ -1,4 +1,4 @@
--- `node_patterns::pattern_demand` meets its contract. Assumes nothing.
+-- `state_patterns::pattern_demand` meets its contract. Assumes nothing.
 use lib.Ieee.{ofBits}
 use Rattle.number.specs.Constants.{decimal}
 use borrow.Author.Needs.{needs}

@@ -1,4 +1,4 @@
--- `node_patterns::pattern_head` meets its contract. Assumes nothing.
+-- `state_patterns::pattern_head` meets its contract. Assumes nothing.
 use borrow.Author.Needs.{needs}
 use Rattle.state_patterns.proofs.pattern_head.Statement.{statement}
 use Rattle.state_patterns.proofs.pattern_head.Tie as tie

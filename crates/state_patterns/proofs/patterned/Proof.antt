@@ -1,4 +1,4 @@
--- `node_patterns::patterned` meets its contract. Assumes nothing.
+-- `state_patterns::patterned` meets its contract. Assumes nothing.
 use Rattle.state_patterns.specs.Patterns.{patterned}
 use borrow.Author.Needs.{needs}
 use Rattle.state_patterns.proofs.patterned.Statement.{statement}

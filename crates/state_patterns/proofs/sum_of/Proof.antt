@@ -1,4 +1,4 @@
--- `node_patterns::sum_of` meets its contract. Assumes nothing.
+-- `state_patterns::sum_of` meets its contract. Assumes nothing.
 use lib.Ieee.{ofBits}
 use Rattle.number.specs.Constants.{decimal}
 use Rattle.state_patterns.specs.Patterns.{sumOf}

@@ -1,4 +1,4 @@
--- `node_patterns::tabled` meets its contract. Assumes nothing.
+-- `state_patterns::tabled` meets its contract. Assumes nothing.
 use lib.Ieee.{ofBits}
 use Rattle.number.specs.Constants.{decimal}
 use borrow.Author.Tests.{eq-eqb, ne-eqb, lt-ltb, le-ltb, le-leb, lt-leb, not-true, not-false}

@@ -1,4 +1,4 @@
--- `control_records::condition_index_ok` meets its contract. Assumes nothing.
+-- `table_control::condition_index_ok` meets its contract. Assumes nothing.
 use Rattle.table_control.specs.Records.{conditionIndexOk}
 use borrow.Author.Needs.{needs}
 use Rattle.table_control.proofs.condition_index_ok.Statement.{statement}

@@ -1,4 +1,4 @@
--- `control_records::control_ok` meets its contract. Assumes nothing.
+-- `table_control::control_ok` meets its contract. Assumes nothing.
 use Rattle.table_control.specs.Records.{controlOk}
 use borrow.Author.Needs.{needs}
 use Rattle.table_control.proofs.control_ok.Statement.{statement}

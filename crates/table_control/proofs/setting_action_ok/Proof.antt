@@ -1,4 +1,4 @@
--- `control_records::setting_action_ok` meets its contract. Assumes nothing.
+-- `table_control::setting_action_ok` meets its contract. Assumes nothing.
 use Rattle.table_control.specs.Records.{settingActionOk}
 use borrow.Author.Needs.{needs}
 use Rattle.table_control.proofs.setting_action_ok.Statement.{statement}

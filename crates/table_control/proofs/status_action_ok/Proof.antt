@@ -1,4 +1,4 @@
--- `control_records::status_action_ok` meets its contract. Assumes nothing.
+-- `table_control::status_action_ok` meets its contract. Assumes nothing.
 use Rattle.table_control.specs.Records.{statusActionOk}
 use borrow.Author.Needs.{needs}
 use Rattle.table_control.proofs.status_action_ok.Statement.{statement}

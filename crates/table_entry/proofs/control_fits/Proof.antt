@@ -1,4 +1,4 @@
--- `entry_fits::control_fits` meets its contract. By what the two calls ensure. Assumes nothing.
+-- `table_entry::control_fits` meets its contract. By what the two calls ensure. Assumes nothing.
 use Rattle.table_entry.specs.Fits.{controlFits}
 use borrow.Author.Needs.{needs}
 use Rattle.table_entry.proofs.control_fits.Statement.{statement}

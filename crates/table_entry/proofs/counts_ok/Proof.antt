@@ -1,4 +1,4 @@
--- `entry_fits::counts_ok` meets its contract. The result is the definition, test by test. Assumes nothing.
+-- `table_entry::counts_ok` meets its contract. The result is the definition, test by test. Assumes nothing.
 use Rattle.table_entry.specs.Fits.{countsOk}
 use Rattle.table_entry.proofs.counts_ok.Statement.{statement}
 use Rattle.table_entry.proofs.counts_ok.Tie as tie

@@ -1,4 +1,4 @@
--- `entry_fits::link_fits` meets its contract. By what the two calls ensure. Assumes nothing.
+-- `table_entry::link_fits` meets its contract. By what the two calls ensure. Assumes nothing.
 use Rattle.table_entry.specs.Fits.{linkFits}
 use borrow.Author.Needs.{needs}
 use Rattle.table_entry.proofs.link_fits.Statement.{statement}

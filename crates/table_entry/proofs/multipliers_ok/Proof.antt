@@ -1,4 +1,4 @@
--- `entry_fits::multipliers_ok` meets its contract. The invariant: the test holds of every entry passed, so one that fails decides. Assumes nothing.
+-- `table_entry::multipliers_ok` meets its contract. The invariant: the test holds of every entry passed, so one that fails decides. Assumes nothing.
 use Prim.Native.Nat.{_-_}
 use mathlib.Core.Path.{refl, sym}
 use Rattle.model.proofs.Loops.{Held, held-begun, held-turned, held-ended, held-failed}

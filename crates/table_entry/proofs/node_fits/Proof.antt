@@ -1,4 +1,4 @@
--- `entry_fits::node_fits` meets its contract. By what the two calls ensure. Assumes nothing.
+-- `table_entry::node_fits` meets its contract. By what the two calls ensure. Assumes nothing.
 use Rattle.table_entry.specs.Fits.{nodeFits}
 use borrow.Author.Needs.{needs}
 use Rattle.table_entry.proofs.node_fits.Statement.{statement}

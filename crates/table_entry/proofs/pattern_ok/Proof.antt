@@ -1,4 +1,4 @@
--- `entry_fits::pattern_ok` meets its contract. A length out of range fails the conjunction; one in range leaves it to the multipliers. Assumes nothing.
+-- `table_entry::pattern_ok` meets its contract. A length out of range fails the conjunction; one in range leaves it to the multipliers. Assumes nothing.
 use mathlib.Core.Bool.{and-false}
 use borrow.Author.Tests.{lt-leb, le-leb}
 use Rattle.table_entry.specs.Fits.{patternOk}

@@ -1,4 +1,4 @@
--- `entry_fits::premise_fits` meets its contract. By what the two calls ensure. Assumes nothing.
+-- `table_entry::premise_fits` meets its contract. By what the two calls ensure. Assumes nothing.
 use Rattle.table_entry.specs.Fits.{premiseFits}
 use borrow.Author.Needs.{needs}
 use Rattle.table_entry.proofs.premise_fits.Statement.{statement}

@@ -1,4 +1,4 @@
--- `link_records::link_indices_ok` meets its contract. Assumes nothing.
+-- `table_link::link_indices_ok` meets its contract. Assumes nothing.
 use Rattle.table_link.specs.Records.{linkIndicesOk}
 use Rattle.table_link.proofs.link_indices_ok.Statement.{statement}
 use Rattle.table_link.proofs.link_indices_ok.Tie as tie

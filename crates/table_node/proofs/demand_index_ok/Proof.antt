@@ -1,4 +1,4 @@
--- `node_records::demand_index_ok` meets its contract. Assumes nothing.
+-- `table_node::demand_index_ok` meets its contract. Assumes nothing.
 use Rattle.table_node.specs.Records.{demandIndexOk}
 use borrow.Author.Needs.{needs}
 use Rattle.table_node.proofs.demand_index_ok.Statement.{statement}

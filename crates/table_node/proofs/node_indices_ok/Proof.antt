@@ -1,4 +1,4 @@
--- `node_records::node_indices_ok` meets its contract. Assumes nothing.
+-- `table_node::node_indices_ok` meets its contract. Assumes nothing.
 use Rattle.table_node.specs.Records.{nodeIndicesOk}
 use borrow.Author.Needs.{needs}
 use Rattle.table_node.proofs.node_indices_ok.Statement.{statement}

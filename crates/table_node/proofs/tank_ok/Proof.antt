@@ -1,4 +1,4 @@
--- `node_records::tank_ok` meets its contract. Assumes nothing.
+-- `table_node::tank_ok` meets its contract. Assumes nothing.
 use Rattle.table_node.specs.Records.{tankOk}
 use borrow.Author.Needs.{needs}
 use Rattle.table_node.proofs.tank_ok.Statement.{statement}

@@ -1,4 +1,4 @@
--- `premise_records::value_ok` meets its contract. Assumes nothing.
+-- `table_premise::value_ok` meets its contract. Assumes nothing.
 use Rattle.table_premise.specs.Records.{valueOk}
 use borrow.Author.Needs.{needs}
 use Rattle.table_premise.proofs.value_ok.Statement.{statement}

@@ -1,4 +1,4 @@
--- `entries::entry::passed` meets its contract. By the two cases of the test. Assumes nothing.
+-- `image_entry::entry::passed` meets its contract. By the two cases of the test. Assumes nothing.
 use Rattle.image_entry.specs.Entries.{passed}
 use Rattle.image_entry.proofs.entry.passed.Statement.{statement}
 use Rattle.image_entry.proofs.entry.passed.Tie as tie

@@ -1,4 +1,4 @@
--- `entries::words::number` meets its contract. The calls' equations. Assumes nothing.
+-- `image_entry::words::number` meets its contract. The calls' equations. Assumes nothing.
 use borrow.Author.Needs.{needs}
 use Rattle.image_entry.proofs.words.number.Statement.{statement}
 use Rattle.image_entry.proofs.words.number.Tie as tie

@@ -1,4 +1,4 @@
--- `entries::words::pattern_index_of` meets its contract. By the two cases of the test. Assumes nothing.
+-- `image_entry::words::pattern_index_of` meets its contract. By the two cases of the test. Assumes nothing.
 use Rattle.image_entry.specs.Words.{patternIndexOf}
 use borrow.Author.Tests.{ne-eqb}
 use borrow.Author.Needs.{needs}

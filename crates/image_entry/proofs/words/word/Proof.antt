@@ -1,4 +1,4 @@
--- `entries::words::word` meets its contract. Past the end the definition reads 0 too. Assumes nothing.
+-- `image_entry::words::word` meets its contract. Past the end the definition reads 0 too. Assumes nothing.
 use denote.Ref.{now}
 use mathlib.Core.Path.{sym}
 use lib.ListN.{List·getD-eq-default}

@@ -1,4 +1,4 @@
--- `transcript::replay::decode_image` meets its contract. Assumes nothing.
+-- `replay_io::replay::decode_image` meets its contract. Assumes nothing.
 use mathlib.Core.Path.{sym}
 use native.Mathlib.Omega.{arith}
 use denote.Ref.{now}

@@ -1,4 +1,4 @@
--- `transcript::replay::replay_calls` meets its contract. The buffers keep their lengths, and the count of calls left falls. Assumes nothing.
+-- `replay_io::replay::replay_calls` meets its contract. The buffers keep their lengths, and the count of calls left falls. Assumes nothing.
 use Prim.Native.Nat.{_-_}
 use mathlib.Core.Path.{_≡_}
 use lib.ListN.{length}

@@ -1,4 +1,4 @@
--- `state_text::answers::put_answer` meets its contract: the name and the answer are put one behind the other. Assumes nothing.
+-- `replay_text::answers::put_answer` meets its contract: the name and the answer are put one behind the other. Assumes nothing.
 use native.Mathlib.Omega.{arith}
 use Rattle.replay_text.specs.Lines.{nameText, givenText, refusedText, answerText}
 use borrow.Author.Tests.{ne-eqb}

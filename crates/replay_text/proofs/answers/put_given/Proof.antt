@@ -1,4 +1,4 @@
--- `state_text::answers::put_given` meets its contract. Assumes nothing.
+-- `replay_text::answers::put_given` meets its contract. Assumes nothing.
 use native.Mathlib.Omega.{arith}
 use Rattle.replay_text.specs.Lines.{givenText}
 use Rattle.replay_text.proofs.Pieces.{fits, given-7, given-6, given-5, given-ok, given-short}

@@ -1,4 +1,4 @@
--- `state_text::answers::put_name` meets its contract: by the code that each test names, and at last by all the tests. Assumes nothing.
+-- `replay_text::answers::put_name` meets its contract: by the code that each test names, and at last by all the tests. Assumes nothing.
 use native.Mathlib.Omega.{arith}
 use Rattle.replay_text.specs.Lines.{nameText}
 use Rattle.replay_text.proofs.Pieces.{fits, name-1, name-2, name-3, name-4, name-5, name-6, name-7, name-short}

@@ -1,4 +1,4 @@
--- `state_text::answers::put_refused` meets its contract: the label and the number are put one behind the other. Assumes nothing.
+-- `replay_text::answers::put_refused` meets its contract: the label and the number are put one behind the other. Assumes nothing.
 use Prim.Native.Nat.{ℕ}
 use mathlib.Core.Path.{refl}
 use mathlib.Core.List.{List, [], _∷_}

@@ -1,4 +1,4 @@
--- `state_text::answers::put_truth` meets its contract. Assumes nothing.
+-- `replay_text::answers::put_truth` meets its contract. Assumes nothing.
 use native.Mathlib.Omega.{arith}
 use Rattle.replay_text.specs.Lines.{truthText}
 use Rattle.replay_text.proofs.Pieces.{fits, truth-true, truth-false, truth-short}

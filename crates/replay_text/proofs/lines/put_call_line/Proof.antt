@@ -1,4 +1,4 @@
--- `state_text::lines::put_call_line` meets its contract: the answer and the state are put one behind the other. Assumes nothing.
+-- `replay_text::lines::put_call_line` meets its contract: the answer and the state are put one behind the other. Assumes nothing.
 use native.Mathlib.Omega.{arith}
 use Rattle.replay_text.specs.Lines.{stateText, answerText, callLine}
 use Rattle.replay_text.proofs.Pieces.{both, answer-short, state-short, line-put, line-none}

@@ -1,4 +1,4 @@
--- `state_text::lines::put_start_line` meets its contract: `start ok` and the state are put one behind the other. Assumes nothing.
+-- `replay_text::lines::put_start_line` meets its contract: `start ok` and the state are put one behind the other. Assumes nothing.
 use Prim.Native.Nat.{ℕ}
 use mathlib.Core.Path.{refl}
 use mathlib.Core.List.{List, [], _∷_}

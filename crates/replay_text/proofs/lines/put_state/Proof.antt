@@ -1,4 +1,4 @@
--- `state_text::lines::put_state` meets its contract: its pieces are put one behind the other. Assumes nothing.
+-- `replay_text::lines::put_state` meets its contract: its pieces are put one behind the other. Assumes nothing.
 use native.Mathlib.Omega.{arith}
 use Rattle.replay_text.proofs.Pieces.{word-length, nodes-length, state-put}
 use borrow.Author.Needs.{needs}

@@ -1,4 +1,4 @@
--- `state_text::words::put_number` meets its contract. Assumes nothing.
+-- `replay_text::words::put_number` meets its contract. Assumes nothing.
 use Rattle.replay_text.specs.Lines.{numberText}
 use borrow.Author.Needs.{needs}
 use Rattle.replay_text.proofs.words.put_number.Statement.{statement}

@@ -1,4 +1,4 @@
--- `state_text::words::put_word` meets its contract. Assumes nothing.
+-- `replay_text::words::put_word` meets its contract. Assumes nothing.
 use mathlib.Core.Path.{refl}
 use native.Mathlib.Omega.{arith}
 use Rattle.replay_text.specs.Lines.{wordText}

@@ -1,4 +1,4 @@
--- `link_turns::closing::closed` meets its contract. Assumes nothing.
+-- `state_link::closing::closed` meets its contract. Assumes nothing.
 use Rattle.state_link.specs.Closing.{closed}
 use borrow.Author.Needs.{needs}
 use Rattle.state_link.proofs.closing.closed.Statement.{statement}

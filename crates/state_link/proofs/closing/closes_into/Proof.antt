@@ -1,4 +1,4 @@
--- `link_turns::closing::closes_into` meets its contract. Assumes nothing.
+-- `state_link::closing::closes_into` meets its contract. Assumes nothing.
 use lib.Ieee.{ofBits}
 use Rattle.number.specs.Constants.{decimal}
 use Rattle.state_link.specs.Closing.{closesInto}

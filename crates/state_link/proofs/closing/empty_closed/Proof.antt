@@ -1,4 +1,4 @@
--- `link_turns::closing::empty_closed` meets its contract. Assumes nothing.
+-- `state_link::closing::empty_closed` meets its contract. Assumes nothing.
 use mathlib.Core.Path.{refl}
 use Rattle.state_link.specs.Closing.{emptyClosed}
 use Rattle.state_link.proofs.closing.empty_closed.Statement.{statement}

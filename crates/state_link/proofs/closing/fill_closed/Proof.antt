@@ -1,4 +1,4 @@
--- `link_turns::closing::fill_closed` meets its contract. Assumes nothing.
+-- `state_link::closing::fill_closed` meets its contract. Assumes nothing.
 use mathlib.Core.Path.{refl}
 use Rattle.state_link.specs.Closing.{fillClosed}
 use Rattle.state_link.proofs.closing.fill_closed.Statement.{statement}

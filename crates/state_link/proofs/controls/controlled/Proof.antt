@@ -1,4 +1,4 @@
--- `link_turns::controls::controlled` meets its contract. Assumes nothing.
+-- `state_link::controls::controlled` meets its contract. Assumes nothing.
 use borrow.Author.Tests.{eq-eqb, ne-eqb, lt-ltb, le-ltb, le-leb, lt-leb, not-true, not-false}
 use Rattle.state_link.specs.Controls.{controlled}
 use borrow.Author.Needs.{needs}

@@ -1,4 +1,4 @@
--- `link_turns::controls::passed_over` meets its contract. Assumes nothing.
+-- `state_link::controls::passed_over` meets its contract. Assumes nothing.
 use borrow.Author.Needs.{needs}
 use Rattle.state_link.proofs.controls.passed_over.Statement.{statement}
 use Rattle.state_link.proofs.controls.passed_over.Tie as tie

@@ -1,4 +1,4 @@
--- `link_turns::pressure::press` meets its contract. Assumes nothing.
+-- `state_link::pressure::press` meets its contract. Assumes nothing.
 use Rattle.state_link.specs.Pressure.{press}
 use borrow.Author.Needs.{needs}
 use Rattle.state_link.proofs.pressure.press.Statement.{statement}

@@ -1,4 +1,4 @@
--- `link_turns::pressure::presses` meets its contract. Assumes nothing.
+-- `state_link::pressure::presses` meets its contract. Assumes nothing.
 use Rattle.state_link.specs.Pressure.{presses}
 use borrow.Author.Needs.{needs}
 use Rattle.state_link.proofs.pressure.presses.Statement.{statement}

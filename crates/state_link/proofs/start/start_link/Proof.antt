@@ -1,4 +1,4 @@
--- `link_turns::start::start_link` meets its contract. Assumes nothing.
+-- `state_link::start::start_link` meets its contract. Assumes nothing.
 use borrow.Author.Needs.{needs}
 use Rattle.state_link.proofs.start.start_link.Statement.{statement}
 use Rattle.state_link.proofs.start.start_link.Tie as tie

@@ -1,4 +1,4 @@
--- `node_turns::tanks::tank_candidate` meets its contract. Assumes nothing.
+-- `state_node::tanks::tank_candidate` meets its contract. Assumes nothing.
 use borrow.Author.Needs.{needs}
 use Rattle.state_node.proofs.tanks.tank_candidate.Statement.{statement}
 use Rattle.state_node.proofs.tanks.tank_candidate.Tie as tie

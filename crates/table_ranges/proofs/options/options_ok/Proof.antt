@@ -1,4 +1,4 @@
--- `records::options::options_ok` meets its contract. Assumes nothing.
+-- `table_ranges::options::options_ok` meets its contract. Assumes nothing.
 use Rattle.table_ranges.specs.Records.{optionsOk}
 use borrow.Author.Needs.{needs}
 use Rattle.table_ranges.proofs.options.options_ok.Statement.{statement}

@@ -1,4 +1,4 @@
--- `records::ranges::clock_ok` meets its contract. Assumes nothing.
+-- `table_ranges::ranges::clock_ok` meets its contract. Assumes nothing.
 use Rattle.table_ranges.specs.Ranges.{clockOk}
 use Rattle.table_ranges.proofs.ranges.clock_ok.Statement.{statement}
 use Rattle.table_ranges.proofs.ranges.clock_ok.Tie as tie

@@ -1,4 +1,4 @@
--- `records::ranges::pattern_index_ok` meets its contract. Assumes nothing.
+-- `table_ranges::ranges::pattern_index_ok` meets its contract. Assumes nothing.
 use Rattle.table_ranges.specs.Ranges.{patternIndexOk}
 use borrow.Author.Needs.{needs}
 use Rattle.table_ranges.proofs.ranges.pattern_index_ok.Statement.{statement}

@@ -1,4 +1,4 @@
--- `records::ranges::premise_number_ok` meets its contract. Assumes nothing.
+-- `table_ranges::ranges::premise_number_ok` meets its contract. Assumes nothing.
 use Rattle.table_ranges.specs.Ranges.{premiseNumberOk}
 use lib.Ieee.{ofBits}
 use Rattle.number.specs.Constants.{decimal}

@@ -1,4 +1,4 @@
--- `records::ranges::status_ok` meets its contract. Assumes nothing.
+-- `table_ranges::ranges::status_ok` meets its contract. Assumes nothing.
 use Rattle.table_ranges.specs.Ranges.{statusOk}
 use Rattle.table_ranges.proofs.ranges.status_ok.Statement.{statement}
 use Rattle.table_ranges.proofs.ranges.status_ok.Tie as tie

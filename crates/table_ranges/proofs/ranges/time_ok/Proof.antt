@@ -1,4 +1,4 @@
--- `records::ranges::time_ok` meets its contract. Assumes nothing.
+-- `table_ranges::ranges::time_ok` meets its contract. Assumes nothing.
 use Rattle.table_ranges.specs.Ranges.{timeOk}
 use Rattle.table_ranges.proofs.ranges.time_ok.Statement.{statement}
 use Rattle.table_ranges.proofs.ranges.time_ok.Tie as tie

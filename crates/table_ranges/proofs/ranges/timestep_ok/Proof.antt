@@ -1,4 +1,4 @@
--- `records::ranges::timestep_ok` meets its contract. Assumes nothing.
+-- `table_ranges::ranges::timestep_ok` meets its contract. Assumes nothing.
 use Rattle.table_ranges.specs.Ranges.{timestepOk}
 use borrow.Author.Needs.{needs}
 use Rattle.table_ranges.proofs.ranges.timestep_ok.Statement.{statement}
