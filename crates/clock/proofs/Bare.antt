@@ -8,7 +8,8 @@ use lib.Dec.{ltb}
 use Rattle.clock.specs.declared.length.Times.{Times}
 use Rattle.clock.specs.Triggers.{Trigger, Moment, lengthAt}
 use Rattle.clock.specs.Machine.{Machine, bit, final}
-use Rattle.clock.specs.Demand3.{Accepted, Stepped, Quiet, Lawful, Start, Claim}
+use Rattle.clock.specs.Demand3.{Claim}
+use Rattle.clock.specs.Lawful.{Accepted, Stepping, Quiet, Lawful, Start}
 use Rattle.clock.proofs.Demand3.{demand3}
 
 pub record State : Type 0 where
@@ -63,7 +64,7 @@ module _ {L : Type 0} (o : Times) (ts : List (Trigger L)) (m : Moment L) where
   quiet step s k e = absurd (true≢false e)
   quiet other s k e = record { instant = refl; count = refl }
 
-  stepped : (c : Call) (s : State) → Unit {0} → isStep c ≡ true → Stepped machine o ts c s
+  stepped : (c : Call) (s : State) → Unit {0} → isStep c ≡ true → Stepping machine o ts c s
   stepped step s k e = record { length = refl; instant = refl; count = refl }
   stepped other s k e = absurd (true≢false (sym e))
 

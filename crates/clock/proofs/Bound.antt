@@ -13,8 +13,9 @@ use Rattle.number.specs.Constants.{MAX}
 use Rattle.clock.specs.declared.length.Times.{Times}
 use Rattle.clock.specs.Steps.{DAY, clockTime, toNext}
 use Rattle.clock.specs.Triggers.{Trigger, atTime, atClock, atLevel, untimed, Moment, candidate, lengthAt}
-use Rattle.clock.specs.Machine.{bit, isLevelTime, levelTime, asLong}
-use Rattle.clock.specs.Demand3.{whole, isTimed, isClocked, countOf, bound, ClockInDay, Each, Accepted}
+use Rattle.clock.specs.Machine.{bit, isLevelTime, isSomeLevelTime, asLong}
+use Rattle.clock.specs.Demand3.{whole, isTimed, isClocked, countOf, bound}
+use Rattle.clock.specs.Lawful.{ClockInDay, Each, Accepted}
 use Rattle.clock.proofs.Tests.{lt-cases, leb-ind, eqb-ind}
 use Rattle.clock.proofs.Smallest.{Member}
 use Rattle.clock.proofs.Lengths.{time-past, time-later, clock-tomorrow, clock-today, candidates, length-positive, length-within, length-member}
@@ -101,22 +102,22 @@ module _ {L : Type 0} (o : Times) where
     called-rise (atLevel l) d e = rw (eq-eqb n (m .level l) e) (omega arith)
     called-rise untimed d e = absurd (omega arith)
 
-    calls-rise : (cs : List (Trigger L)) → Each ClockInDay cs → Member n (map (candidate o m t) cs) → suc (calls cs t) ≤ calls cs (t + n) + bit (levelTime cs m n)
-    unfolding calls levelTime
+    calls-rise : (cs : List (Trigger L)) → Each ClockInDay cs → Member n (map (candidate o m t) cs) → suc (calls cs t) ≤ calls cs (t + n) + bit (isSomeLevelTime cs m n)
+    unfolding calls isSomeLevelTime
     calls-rise [] d h = absurd h
     calls-rise (c ∷ cs) d (inl e) =
-        omega (arith, called-rise c (d .0) e, calls-mono cs {t = t} {u = t + n} (omega arith), bit-or-left (isLevelTime m n c) (levelTime cs m n))
+        omega (arith, called-rise c (d .0) e, calls-mono cs {t = t} {u = t + n} (omega arith), bit-or-left (isLevelTime m n c) (isSomeLevelTime cs m n))
     calls-rise (c ∷ cs) d (inr h) =
-        omega (arith, calls-rise cs (d .1) h, called-mono c {t = t} {u = t + n} (omega arith), bit-or-right (isLevelTime m n c) (levelTime cs m n))
+        omega (arith, calls-rise cs (d .1) h, called-mono c {t = t} {u = t + n} (omega arith), bit-or-right (isLevelTime m n c) (isSomeLevelTime cs m n))
 
 module _ {L : Type 0} (ts : List (Trigger L)) (m : Moment L) (n : ℕ) (p : 0 < n) where
   long-tank : n ≡ m .tank → 1 ≤ bit (asLong ts m n)
   unfolding asLong
   long-tank e = rw (lt-ltb 0 n p, eq-eqb n (m .tank) e) (omega arith)
 
-  long-level : bit (levelTime ts m n) ≤ bit (asLong ts m n)
+  long-level : bit (isSomeLevelTime ts m n) ≤ bit (asLong ts m n)
   unfolding asLong
-  long-level = rw (lt-ltb 0 n p) (bit-or-right (eqb n (m .tank)) (levelTime ts m n))
+  long-level = rw (lt-ltb 0 n p) (bit-or-right (eqb n (m .tank)) (isSomeLevelTime ts m n))
 
 -- ---- the potential
 module _ {L : Type 0} (o : Times) (ts : List (Trigger L)) where

@@ -12,8 +12,9 @@ use borrow.Author.Tests.{lt-ltb, le-ltb, eq-eqb, ne-eqb}
 use Rattle.clock.specs.declared.length.Times.{Times}
 use Rattle.clock.specs.Steps.{toNext}
 use Rattle.clock.specs.Triggers.{Trigger, lengthAt}
-use Rattle.clock.specs.Machine.{Machine, bit, asLong, final, Along, asked, answered, moved, stateSteps}
-use Rattle.clock.specs.Demand3.{wholeUp, PassesNo, Accepted, Stepped, Lawful, Start, Claim}
+use Rattle.clock.specs.Machine.{Machine, bit, asLong, final, Along, asked, answered, timesMoved, stateSteps}
+use Rattle.clock.specs.Demand3.{wholeUp, PassesNo, Claim}
+use Rattle.clock.specs.Lawful.{Accepted, Stepping, Lawful, Start}
 use Rattle.clock.proofs.Tests.{lt-cases}
 use Rattle.clock.proofs.Lengths.{length-past, length-positive, length-zero, length-within, length-fast, length-report, length-pattern}
 use Rattle.clock.proofs.Bound.{potential, potential-top, potential-rise}
@@ -119,7 +120,7 @@ module _ {L : Type 0} (M : Machine L) (o : Times) (ts : List (Trigger L)) where
           }
 
       -- a step before the duration moves it
-      run-moves : M .instant s < o .duration → Stepped M o ts c s
+      run-moves : M .instant s < o .duration → Stepping M o ts c s
           → Run M o ts s z 1 (M .answer c s) (changed (M .instant s) (M .instant z)) (bit (asLong ts (M .moment s) (M .answer c s)))
       run-moves l e =
           let p : 0 < M .answer c s = omega (arith, length-positive o ts (M .moment s) (M .instant s) ok l) in
@@ -143,7 +144,7 @@ module _ {L : Type 0} (M : Machine L) (o : Times) (ts : List (Trigger L)) where
           remains : o .duration - M .instant z ≡ o .duration - M .instant s - M .answer c s
           remains = omega arith
 
-      run-step : M .instant s ≤ o .duration → Stepped M o ts c s
+      run-step : M .instant s ≤ o .duration → Stepping M o ts c s
           → Run M o ts s z 1 (M .answer c s) (changed (M .instant s) (M .instant z)) (bit (asLong ts (M .moment s) (M .answer c s)))
       run-step l e =
           lt-cases (M .instant s) (o .duration)
@@ -164,8 +165,8 @@ module _ {L : Type 0} (M : Machine L) (o : Times) (ts : List (Trigger L)) where
           go false e = run-stays l (law .quiet c s k e .instant) (law .quiet c s k e .count) (omega arith) refl
 
     run : (calls : List (M .Call)) (s : M .State) → M .Sound s → M .instant s ≤ o .duration
-        → Run M o ts s (final M calls s) (asked M calls) (answered M calls s) (moved M calls s) (stateSteps M ts calls s)
-    unfolding final asked answered moved stateSteps
+        → Run M o ts s (final M calls s) (asked M calls) (answered M calls s) (timesMoved M calls s) (stateSteps M ts calls s)
+    unfolding final asked answered timesMoved stateSteps
     run [] s k l = run-none s k l
     run (c ∷ calls) s k l = let r : _ = run-call c s k l in run-then r (run calls (M .after c s) (r .sound) (r .within))
 
@@ -177,7 +178,7 @@ module _ {L : Type 0} (M : Machine L) (o : Times) (ts : List (Trigger L)) where
 
     pub demand3 : (s : M .State) → Start M s → (calls : List (M .Call)) → Claim M o ts calls s (final M calls s)
     demand3 s b calls =
-        let r : Run M o ts s (final M calls s) (asked M calls) (answered M calls s) (moved M calls s) (stateSteps M ts calls s) =
+        let r : Run M o ts s (final M calls s) (asked M calls) (answered M calls s) (timesMoved M calls s) (stateSteps M ts calls s) =
         run calls s (b .sound) (omega arith) in
         let d : o .duration - M .instant s ≡ o .duration = omega arith in
         record {

@@ -13,7 +13,7 @@ use Rattle.number.specs.Constants.{MAX}
 use Rattle.clock.specs.declared.length.Times.{Times}
 use Rattle.clock.specs.Steps.{DAY, timeCandidate, clockCandidate, smallerPositive, smallestPositive, toNext, calculateTimeStep, stepLength}
 use Rattle.clock.specs.Triggers.{Trigger, Moment, candidate, controlTime, lengthAt}
-use Rattle.clock.specs.Demand3.{Accepted}
+use Rattle.clock.specs.Lawful.{Accepted}
 use Rattle.clock.proofs.Tests.{lt-cases, eqb-ind}
 use Rattle.clock.proofs.Smallest.{Member, smallest-positive, smallest-max, smallest-le, smallest-member}
 

@@ -6,3 +6,4 @@ pub mod Advanced
 pub mod Bound
 pub mod Demand3
 pub mod Bare
+pub mod Tight

@@ -1,15 +1,14 @@
--- Demand 3, over any list of calls of a lawful machine.
+-- Demand 3, over any list of calls of a machine. It is proved of every lawful one (Lawful.antt).
 use Prim.Native.Nat.{ℕ, _+_, _*_, _-_, _/_, _≤_, _<_, min}
 use mathlib.Core.Path.{_≡_}
 use mathlib.Core.Logic.{_↔_}
 use mathlib.Core.Bool.{Bool, true, false, cond}
 use mathlib.Core.List.{List, [], _∷_}
-use lib.Dec.{ltb, eqb}
-use Rattle.number.specs.Constants.{MAX}
+use lib.Dec.{eqb}
 use Rattle.clock.specs.declared.length.Times.{Times}
 use Rattle.clock.specs.Steps.{DAY}
 use Rattle.clock.specs.Triggers.{Trigger, atTime, atClock, atLevel, untimed, lengthAt}
-use Rattle.clock.specs.Machine.{Machine, bit, final, Along, asked, answered, moved, stateSteps}
+use Rattle.clock.specs.Machine.{Machine, bit, final, Along, asked, answered, timesMoved, stateSteps}
 
 -- ---- the numbers of the bound
 -- "Whole timesteps and days are rounded down"; "no hydraulic ones where that field is 0"
@@ -51,46 +50,6 @@ bound o ts steps =
 pub record PassesNo (k from length : ℕ) : Type 0 where
   pub none : (i : ℕ) → from < i * k → i * k < from + length → ⊥
 
--- ---- what the theorem asks
--- of an accepted project's times and controls
-abbrev pub ClockInDay : {L : Type 0} → Trigger L → Type 0
-ClockInDay (atTime s) = Unit {0}
-ClockInDay (atClock s) = s < DAY
-ClockInDay (atLevel l) = Unit {0}
-ClockInDay untimed = Unit {0}
-
-abbrev pub Each : {A : Type 0} → (A → Type 0) → List A → Type 0
-Each P [] = Unit {0}
-Each P (a ∷ l) = P a × Each P l
-
-pub record Accepted {L : Type 0} (o : Times) (ts : List (Trigger L)) : Type 0 where
-  pub report : 0 < o .report
-  pub pattern : 0 < o .pattern
-  pub duration : o .duration < MAX
-  pub clocks : Each ClockInDay ts
-
--- of each call: it keeps what is sound and gives a number that it may; the clock stays, or moves by the step that the definition gives
-pub record Stepped {L : Type 0} (M : Machine L) (o : Times) (ts : List (Trigger L)) (c : M .Call) (s : M .State) : Type 0 where
-  pub length : M .answer c s ≡ lengthAt o ts (M .moment s) (M .instant s)
-  pub instant : M .instant (M .after c s) ≡ M .instant s + M .answer c s
-  pub count : M .count (M .after c s) ≡ M .count s + bit (ltb 0 (M .answer c s))
-
-pub record Quiet {L : Type 0} (M : Machine L) (c : M .Call) (s : M .State) : Type 0 where
-  pub instant : M .instant (M .after c s) ≡ M .instant s
-  pub count : M .count (M .after c s) ≡ M .count s
-
-pub record Lawful {L : Type 0} (M : Machine L) (o : Times) (ts : List (Trigger L)) : Type 0 where
-  pub sound : (c : M .Call) (s : M .State) → M .Sound s → M .Sound (M .after c s)
-  pub number : (c : M .Call) (s : M .State) → M .Sound s → M .MayGive c (M .number c s)
-  pub quiet : (c : M .Call) (s : M .State) → M .Sound s → M .isStep c ≡ false → Quiet M c s
-  pub step : (c : M .Call) (s : M .State) → M .Sound s → M .isStep c ≡ true → Stepped M o ts c s
-
--- of the state that a list starts on: "instant and count 0"
-pub record Start {L : Type 0} (M : Machine L) (s : M .State) : Type 0 where
-  pub sound : M .Sound s
-  pub instant : M .instant s ≡ 0
-  pub count : M .count s ≡ 0
-
 -- ---- the claim, in the mission's order, of the state z after the list `calls` from s
 pub record Claim {L : Type 0} (M : Machine L) (o : Times) (ts : List (Trigger L)) (calls : List (M .Call)) (s z : M .State) : Type 0 where
   -- z is the state that the list leaves
@@ -104,7 +63,7 @@ pub record Claim {L : Type 0} (M : Machine L) (o : Times) (ts : List (Trigger L)
   -- "and always once as many steps were asked as the duration has seconds"
   pub done : o .duration ≤ asked M calls → M .instant z ≡ o .duration
   -- "The count reported is the number of times the clock moved."
-  pub counts : M .count z ≡ moved M calls s
+  pub counts : M .count z ≡ timesMoved M calls s
   -- "On the fast path it is the smaller of the steps asked and duration over report timestep, rounded up."
   pub fast : o .fast ≡ true → M .count z ≡ min (asked M calls) (wholeUp (o .duration) (o .report))
   -- "Off it no step passes a multiple of the report or pattern timestep"

@@ -32,13 +32,14 @@ isLevelTime m n (atClock s) = false
 isLevelTime m n (atLevel l) = eqb n (m .level l)
 isLevelTime m n untimed = false
 
-unfoldable pub levelTime : {L : Type 0} → List (Trigger L) → Moment L → ℕ → Bool
-levelTime [] m n = false
-levelTime (t ∷ ts) m n = isLevelTime m n t || levelTime ts m n
+-- n is the time of one of them
+unfoldable pub isSomeLevelTime : {L : Type 0} → List (Trigger L) → Moment L → ℕ → Bool
+isSomeLevelTime [] m n = false
+isSomeLevelTime (t ∷ ts) m n = isLevelTime m n t || isSomeLevelTime ts m n
 
 -- "the steps as long as that moment's tank or level-control time"; one of 0 "adds nothing to the bound"
 unfoldable pub asLong : {L : Type 0} → List (Trigger L) → Moment L → ℕ → Bool
-asLong ts m n = ltb 0 n && (eqb n (m .tank) || levelTime ts m n)
+asLong ts m n = ltb 0 n && (eqb n (m .tank) || isSomeLevelTime ts m n)
 
 module _ {L : Type 0} (M : Machine L) where
   -- the state that a list leaves
@@ -62,9 +63,9 @@ module _ {L : Type 0} (M : Machine L) where
   answered (c ∷ cs) s = cond (M .isStep c) (M .answer c s) 0 + answered cs (M .after c s)
 
   -- the number of times the clock moved
-  unfoldable pub moved : List (M .Call) → M .State → ℕ
-  moved [] s = 0
-  moved (c ∷ cs) s = bit (not (eqb (M .instant (M .after c s)) (M .instant s))) + moved cs (M .after c s)
+  unfoldable pub timesMoved : List (M .Call) → M .State → ℕ
+  timesMoved [] s = 0
+  timesMoved (c ∷ cs) s = bit (not (eqb (M .instant (M .after c s)) (M .instant s))) + timesMoved cs (M .after c s)
 
   -- how many of a list's steps are as long
   unfoldable pub stateSteps : List (Trigger L) → List (M .Call) → M .State → ℕ

@@ -18,13 +18,17 @@ pub record Moment (L : Type 0) : Type 0 where
   pub tank : ℕ
   pub level : L → ℕ
 
+-- a control's candidate, from the time to each level, the time of the run and the clock time
+abbrev pub candidateOf : {L : Type 0} → (L → ℕ) → ℕ → ℕ → Trigger L → ℕ
+candidateOf level time clock (atTime s) = timeCandidate s time
+candidateOf level time clock (atClock s) = clockCandidate s clock
+candidateOf level time clock (atLevel l) = level l
+candidateOf level time clock untimed = MAX
+
 module _ {L : Type 0} (o : Times) where
-  -- a control's candidate
+  -- the same at a moment of the run
   unfoldable pub candidate : Moment L → ℕ → Trigger L → ℕ
-  candidate m time (atTime s) = timeCandidate s time
-  candidate m time (atClock s) = clockCandidate s (clockTime (o .«start_clock») time)
-  candidate m time (atLevel l) = m .level l
-  candidate m time untimed = MAX
+  candidate m time t = candidateOf (m .level) time (clockTime (o .«start_clock») time) t
 
   -- "Candidates of 0 drop out: control by control"
   unfoldable pub controlTime : List (Trigger L) → Moment L → ℕ → ℕ

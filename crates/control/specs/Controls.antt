@@ -5,7 +5,7 @@ use lib.Dec.{eqb}
 use lib.Ieee.{Float, le, ne, neg}
 use Rattle.number.specs.Constants.{hTol, lTol, MAX}
 use Rattle.number.specs.Operators.{_⊖_}
-use Rattle.clock.specs.Steps.{timeCandidate, clockCandidate}
+use Rattle.clock.specs.Triggers.{Trigger, atTime, atClock, atLevel, untimed, candidateOf}
 use Rattle.tank.specs.Tanks.{timeToReachLevel}
 use Rattle.model.specs.Links.{initialFlow}
 use Rattle.model.specs.Nodes.{elevation, isTank}
@@ -68,11 +68,21 @@ levelTime (Tank t) s target =
     timeToReachLevel t (record { 0 = s .head ⊖ t .elevation .0 }) (record { 0 = target }) (record { 0 = s .demand })
 levelTime (Junction j) s target = MAX
 
--- a control's candidate; "Pressure controls give no candidate"
+-- a level control's tank and target
+pub record Level : Type 0 where
+  pub tank : ℕ
+  pub target : Float
+
+-- when a control calls for a stop. "Pressure controls, and level controls whose node is no tank, give no candidate": the former here, the latter by
+-- `levelTime`, which is MAX there
+abbrev pub triggerOf : ControlCondition → Trigger Level
+triggerOf (HighPressure n x) = untimed
+triggerOf (LowPressure n x) = untimed
+triggerOf (HighLevel n x) = atLevel (record { tank = n; target = x })
+triggerOf (LowLevel n x) = atLevel (record { tank = n; target = x })
+triggerOf (Time s) = atTime s
+triggerOf (ClockTime s) = atClock s
+
+-- a control's candidate: the clock's, from the node that it watches
 abbrev pub candidate : ControlCondition → Node → NodeState → ℕ → ℕ → ℕ
-candidate (HighPressure i target) n s time clock = MAX
-candidate (LowPressure i target) n s time clock = MAX
-candidate (HighLevel i target) n s time clock = levelTime (n .kind) s target
-candidate (LowLevel i target) n s time clock = levelTime (n .kind) s target
-candidate (Time t) n s time clock = timeCandidate t time
-candidate (ClockTime t) n s time clock = clockCandidate t clock
+candidate c n s time clock = candidateOf (λ (l : Level). levelTime (n .kind) s (l .target)) time clock (triggerOf c)

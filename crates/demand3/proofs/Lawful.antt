@@ -9,7 +9,7 @@ use native.Mathlib.Omega.{arith}
 use lib.Dec.{eqb, ltb}
 use borrow.Author.Tests.{eq-eqb, ne-eqb, lt-ltb}
 use Rattle.clock.proofs.Tests.{eqb-ind}
-use Rattle.clock.specs.Demand3.{Accepted, ClockInDay, Each, Lawful, Quiet, Start, Stepped}
+use Rattle.clock.specs.Lawful.{Accepted, ClockInDay, Each, Lawful, Quiet, Start, Stepping}
 use Rattle.clock.specs.Machine.{bit}
 use Rattle.clock.specs.Steps.{advanced}
 use Rattle.clock.specs.Triggers.{Trigger}
@@ -103,7 +103,7 @@ step-clock p s e =
     (eqb-ind (λ b. cond b s (record { nodes = updateTanks p s (lengthOf p s) .nodes; links = updateTanks p s (lengthOf p s) .links; clock = advanced (s .clock) (lengthOf p s) }) .clock ≡ hand (s .clock) (lengthOf p s) b)
     (lengthOf p s) 0 (λ z. refl) (λ n. step-moves t o (lengthOf p s) n (step-within t o)))
 
-steps : (p : Project) (c : Call) (s : State) → inOrder p s ≡ true → isStep c ≡ true → Stepped (machine p) (timesOf p) (triggersOf p) c s
+steps : (p : Project) (c : Call) (s : State) → inOrder p s ≡ true → isStep c ≡ true → Stepping (machine p) (timesOf p) (triggersOf p) c s
 unfolding outcome lengthOf
 steps p patterns s e q = absurd (true≢false (sym q))
 steps p controls s e q = absurd (true≢false (sym q))

@@ -23,7 +23,7 @@ use Rattle.driver_turn.specs.declared.Turned.{Turned}
 use Rattle.driver_turn.specs.Turns.{Turn, turn}
 use Rattle.driver_turn.specs.Turned.{TurnedAs}
 use Rattle.driver_chunk.specs.Runs.{turns}
-use Rattle.driver_chunk.specs.Chunks.{wantsInput, canTurn, Ran}
+use Rattle.driver_chunk.specs.Chunks.{wantsInput, canTurn, TurnsRan}
 use Rattle.driver_chunk.proofs.Turning.{Known, known, turn-more, turn-done}
 
 -- what a turn may count on
@@ -173,7 +173,7 @@ module _ {p : Project} {s : State} {input : List ℕ} {whole : Bool} {before aft
 
   -- where it can make no turn and has made none, it waits for input
   pub going-ended : canTurn over wants (length after - written) ≡ false
-      → Ran p s input whole before after (record { number = 0; state = state; used = used; written = written; over = over; wants = wants })
+      → TurnsRan p s input whole before after (record { number = 0; state = state; used = used; written = written; over = over; wants = wants })
   going-ended stop =
       record {
         count = g .count;

@@ -26,7 +26,7 @@ canTurn over wants room = cond over false (cond (eqb wants 0) (leb 22 room) fals
 
 -- r is a run of turns from s on the input, whatever may come after the input; its text stands at the start of the buffer.
 -- How many turns there are is left free, but that there is one wherever there can be.
-pub record Ran (p : Project) (s : State) (input : List ℕ) (whole : Bool) (before after : List ℕ) (r : Chunk) : Type 0 where
+pub record TurnsRan (p : Project) (s : State) (input : List ℕ) (whole : Bool) (before after : List ℕ) (r : Chunk) : Type 0 where
   pub count : ℕ
   pub lines : List Line
   pub accepted : r .number ≡ 0
@@ -49,7 +49,7 @@ refusedChunk s = record { number = 10; state = s; used = 0; written = 0; over = 
 
 pub record Advanced (p : Project) (s : State) (input : List ℕ) (whole : Bool) (before after : List ℕ) (r : Chunk) : Type 0 where
   pub refused : inOrder p s ≡ false → (r ≡ refusedChunk s) × (after ≡ before)
-  pub ran : inOrder p s ≡ true → Ran p s input whole before after r
+  pub ran : inOrder p s ≡ true → TurnsRan p s input whole before after r
 
 -- A run made in chunks, as the program makes it: from s on the bytes, with the text that it writes in all. Each chunk is given a front of the bytes
 -- that are left; where it is told that no more comes, there is no more.

@@ -3,7 +3,7 @@
 ghost use mathlib.Core.Path.{_≡_};
 ghost use mathlib.Core.Bool.{true};
 ghost use Rattle.judge.specs.Judgement.{inOrder};
-ghost use Rattle.driver_chunk.specs.Chunks.{wantsInput, canTurn, Ran, Advanced};
+ghost use Rattle.driver_chunk.specs.Chunks.{wantsInput, canTurn, TurnsRan, Advanced};
 use driver_load::load_words;
 use driver_turn::turn;
 use judge::in_order;
@@ -52,7 +52,7 @@ fn can_turn(over: bool, wants: usize, room: usize) -> bool
 // The turns of a chunk.
 fn run(p: Project, s: State, input: &[u8], whole: bool, out: &mut [u8]) -> Chunk
     requires { ⌜ inOrder p s ≡ true ⌝ }
-    ensures { λ r. ⌜ Ran p s (now (input .entry)) whole (now (out .entry)) (now (out .exit)) r ⌝ }
+    ensures { λ r. ⌜ TurnsRan p s (now (input .entry)) whole (now (out .entry)) (now (out .exit)) r ⌝ }
 {
     let size = load_words(p) * 4;
     let duration = p.options.duration;

@@ -16,7 +16,7 @@ use Rattle.calls_sound.proofs.Theorem.{state-of}
 use Rattle.driver_io.specs.declared.Held.{Held}
 use Rattle.driver_load.specs.Sizes.{loadBytes}
 use Rattle.driver_chunk.specs.declared.Chunk.{Chunk}
-use Rattle.driver_chunk.specs.Chunks.{Ran, Advanced}
+use Rattle.driver_chunk.specs.Chunks.{TurnsRan, Advanced}
 use Rattle.driver_chunk.proofs.Going.{wants-load}
 
 -- what is left to do: a step's seconds count twice, and a chunk that may wait for input once
@@ -25,10 +25,10 @@ left over duration instant wants = cond over 0 (1 + 2 * (duration - instant) + c
 
 module _ {p : Project} {s : State} {input : List ℕ} {whole : Bool} {before after : List ℕ} {r : Chunk} (a : Advanced p s input whole before after r) where
   -- a chunk that is not over was made on a state in order
-  ran : r .over ≡ false → Ran p s input whole before after r
+  ran : r .over ≡ false → TurnsRan p s input whole before after r
   ran z = judged (inOrder p s) refl
     where
-      judged : (b : Bool) → inOrder p s ≡ b → Ran p s input whole before after r
+      judged : (b : Bool) → inOrder p s ≡ b → TurnsRan p s input whole before after r
       judged true e = a .ran e
       judged false e = absurd (true≢false (sym (ap (λ (c : Chunk). c .over) (a .refused e .0)) ∙ z))
 

@@ -26,7 +26,7 @@ use Rattle.driver_image.specs.Opening.{imageWords}
 use Rattle.driver_turn.specs.Turns.{turn}
 use Rattle.driver_chunk.specs.declared.Chunk.{Chunk}
 use Rattle.driver_chunk.specs.Runs.{Run, joined, next, turns}
-use Rattle.driver_chunk.specs.Chunks.{Ran, Chunked}
+use Rattle.driver_chunk.specs.Chunks.{TurnsRan, Chunked}
 use Rattle.driver_chunk.proofs.Turning.{Known, known}
 use Rattle.driver_printed.specs.Printed.{linesFrom, opened, printed}
 
@@ -85,7 +85,7 @@ module _ (p : Project) where
       ap (λ (x : Run). x .lines)
       (more-turns n last r ∙ ap (λ (m : ℕ). turns m p r) (add-comm n last) ∙ sym (more-turns last n r) ∙ stays n (turns last p r) over)
 
-  module _ {s : State} {input : List ℕ} {whole : Bool} {before after : List ℕ} {r : Chunk} (a : Ran p s input whole before after r) where
+  module _ {s : State} {input : List ℕ} {whole : Bool} {before after : List ℕ} {r : Chunk} (a : TurnsRan p s input whole before after r) where
     -- a chunk: the lines of the whole run are those that it had, those in the buffer, and those from there on
     chunk-lines : inOrder p s ≡ true → (rest : List ℕ) (had : List Line) → (whole ≡ true → rest ≡ [])
         → linesFrom p (record { state = s; left = input ++ rest; lines = had; over = false })

@@ -33,8 +33,8 @@ statusActionOf present status = cond present (SetStatus status) KeepStatus
 unfoldable pub settingActionOf : Bool → Float → SettingAction
 settingActionOf present setting = cond present (SetSetting setting) KeepSetting
 
-unfoldable pub controlAt : List ℕ → Control
-controlAt p = record {
+unfoldable pub controlOf : List ℕ → Control
+controlOf p = record {
   condition = conditionOf (word p 0) (word p 1) (number p 2);
   link = word p 4;
   status = statusActionOf (eqb (word p 5 % 2) 1) (word p 6);
@@ -52,5 +52,5 @@ controlWordsOk p =
 unfoldable pub controlEntry : List ℕ → Counts → Entry
 controlEntry p c =
     passed (ltb (c .controls) 64) 4
-    (passed (controlWordsOk p && controlOk (controlAt p)) 5
-    (passed (controlIndicesOk (c .nodes) (c .links) (controlAt p)) 6 (entries.Control (controlAt p))))
+    (passed (controlWordsOk p && controlOk (controlOf p)) 5
+    (passed (controlIndicesOk (c .nodes) (c .links) (controlOf p)) 6 (entries.Control (controlOf p))))

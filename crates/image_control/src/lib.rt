@@ -1,6 +1,6 @@
 // What the payload of a control says (kind 7), and the first of numbers 4, 5 and 6 that it breaks.
 ghost use mathlib.Core.Path.{_≡_};
-ghost use Rattle.image_control.specs.Entries.{conditionOf, statusActionOf, settingActionOf, controlAt, controlWordsOk, controlEntry};
+ghost use Rattle.image_control.specs.Entries.{conditionOf, statusActionOf, settingActionOf, controlOf, controlWordsOk, controlEntry};
 use image_entry::Entry;
 use image_entry::number;
 use image_entry::passed;
@@ -54,8 +54,8 @@ fn setting_action_of(present: bool, setting: f64) -> SettingAction
     SettingAction::KeepSetting
 }
 
-fn control_at(p: &[u32]) -> Control
-    ensures { λ r. ⌜ r ≡ controlAt (now (p .entry)) ⌝ }
+fn control_of(p: &[u32]) -> Control
+    ensures { λ r. ⌜ r ≡ controlOf (now (p .entry)) ⌝ }
 {
     let target = number(p, 2);
     let flags = word(p, 5);
@@ -84,7 +84,7 @@ fn control_words_ok(p: &[u32]) -> bool
 pub fn control_entry(p: &[u32], c: Counts) -> Entry
     ensures { λ r. ⌜ r ≡ controlEntry (now (p .entry)) c ⌝ }
 {
-    let control = control_at(p);
+    let control = control_of(p);
     let room = c.controls < 64;
     let words = control_words_ok(p) & control_ok(control);
     let indices = control_indices_ok(c.nodes, c.links, control);

@@ -19,8 +19,8 @@ use Rattle.image_entry.specs.declared.entry.Entry.the-variants as entries
 unfoldable pub linkTypeOf : ℕ → Float → Float → LinkType
 linkTypeOf sort size setting = cond (eqb sort 0) (Pipe size) (cond (eqb sort 1) (Pump size setting) (Valve size setting))
 
-unfoldable pub linkAt : List ℕ → Link
-linkAt p =
+unfoldable pub linkOf : List ℕ → Link
+linkOf p =
     record { start = word p 0; end = word p 1; «initial_status» = word p 3; kind = linkTypeOf (word p 2) (number p 4) (number p 6) }
 
 -- "A pipe's setting is +0.0."
@@ -30,4 +30,4 @@ linkWordsOk p = leb (word p 2) 2 && (leb 1 (word p 2) || eqb (word p 6) 0 && eqb
 unfoldable pub linkEntry : List ℕ → Counts → Entry
 linkEntry p c =
     passed (ltb (c .links) 384) 4
-    (passed (linkWordsOk p && linkOk (linkAt p)) 5 (passed (linkIndicesOk (c .nodes) (linkAt p)) 6 (entries.Link (linkAt p))))
+    (passed (linkWordsOk p && linkOk (linkOf p)) 5 (passed (linkIndicesOk (c .nodes) (linkOf p)) 6 (entries.Link (linkOf p))))

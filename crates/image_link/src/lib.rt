@@ -1,6 +1,6 @@
 // What the payload of a link says (kind 6), and the first of numbers 4, 5 and 6 that it breaks.
 ghost use mathlib.Core.Path.{_≡_};
-ghost use Rattle.image_link.specs.Entries.{linkTypeOf, linkAt, linkWordsOk, linkEntry};
+ghost use Rattle.image_link.specs.Entries.{linkTypeOf, linkOf, linkWordsOk, linkEntry};
 use image_entry::Entry;
 use image_entry::number;
 use image_entry::passed;
@@ -29,8 +29,8 @@ fn link_type_of(sort: u32, size: f64, setting: f64) -> LinkType
     }
 }
 
-fn link_at(p: &[u32]) -> Link
-    ensures { λ r. ⌜ r ≡ linkAt (now (p .entry)) ⌝ }
+fn link_of(p: &[u32]) -> Link
+    ensures { λ r. ⌜ r ≡ linkOf (now (p .entry)) ⌝ }
 {
     let size = number(p, 4);
     let setting = number(p, 6);
@@ -53,7 +53,7 @@ fn link_words_ok(p: &[u32]) -> bool
 pub fn link_entry(p: &[u32], c: Counts) -> Entry
     ensures { λ r. ⌜ r ≡ linkEntry (now (p .entry)) c ⌝ }
 {
-    let l = link_at(p);
+    let l = link_of(p);
     let room = c.links < 384;
     let words = link_words_ok(p) & link_ok(l);
     let indices = link_indices_ok(c.nodes, l);

@@ -26,15 +26,15 @@ nodeEntry flag n c =
     passed (ltb (c .nodes) 256) 4 (passed (flag && nodeOk (n .kind)) 5 (passed (nodeIndicesOk (c .patterns) (n .kind)) 6 (entries.Node n)))
 
 -- 3 reservoir: "elevation, head pattern"
-unfoldable pub reservoirAt : List ℕ → reservoirs.Reservoir
-reservoirAt p = record { elevation = number p 0; «head_pattern» = patternIndexOf (word p 2) }
+unfoldable pub reservoirOf : List ℕ → reservoirs.Reservoir
+reservoirOf p = record { elevation = number p 0; «head_pattern» = patternIndexOf (word p 2) }
 
 unfoldable pub reservoirEntry : List ℕ → Counts → Entry
-reservoirEntry p c = nodeEntry true (record { kind = Reservoir (reservoirAt p) }) c
+reservoirEntry p c = nodeEntry true (record { kind = Reservoir (reservoirOf p) }) c
 
 -- 4 tank: "elevation, initial, least, greatest level, diameter, flag 1 overflow"
-unfoldable pub tankAt : List ℕ → tanks.Tank
-tankAt p = record {
+unfoldable pub tankOf : List ℕ → tanks.Tank
+tankOf p = record {
   elevation = record { 0 = number p 0 };
   «initial_level» = record { 0 = number p 2 };
   «min_level» = record { 0 = number p 4 };
@@ -44,22 +44,22 @@ tankAt p = record {
 }
 
 unfoldable pub tankEntry : List ℕ → Counts → Entry
-tankEntry p c = nodeEntry (leb (word p 10) 1) (record { kind = Tank (tankAt p) }) c
+tankEntry p c = nodeEntry (leb (word p 10) 1) (record { kind = Tank (tankOf p) }) c
 
 -- 5 junction: "flag 1 disabled, elevation, 0 to 4 of (base demand, pattern)"
-unfoldable pub demandAt : List ℕ → ℕ → Demand
-demandAt p i = record { base = number p i; pattern = patternIndexOf (word p (i + 2)) }
+unfoldable pub demandOf : List ℕ → ℕ → Demand
+demandOf p i = record { base = number p i; pattern = patternIndexOf (word p (i + 2)) }
 
-unfoldable pub demandsAt : List ℕ → Demands
-demandsAt p =
+unfoldable pub demandsOf : List ℕ → Demands
+demandsOf p =
     cond (ltb (length p) 6) NoDemand
-    (cond (ltb (length p) 9) (One (demandAt p 3))
-    (cond (ltb (length p) 12) (Two (demandAt p 3) (demandAt p 6))
-    (cond (ltb (length p) 15) (Three (demandAt p 3) (demandAt p 6) (demandAt p 9))
-    (Four (demandAt p 3) (demandAt p 6) (demandAt p 9) (demandAt p 12)))))
+    (cond (ltb (length p) 9) (One (demandOf p 3))
+    (cond (ltb (length p) 12) (Two (demandOf p 3) (demandOf p 6))
+    (cond (ltb (length p) 15) (Three (demandOf p 3) (demandOf p 6) (demandOf p 9))
+    (Four (demandOf p 3) (demandOf p 6) (demandOf p 9) (demandOf p 12)))))
 
-unfoldable pub junctionAt : List ℕ → junctions.Junction
-junctionAt p = record { disabled = eqb (word p 0) 1; elevation = number p 1; demands = demandsAt p }
+unfoldable pub junctionOf : List ℕ → junctions.Junction
+junctionOf p = record { disabled = eqb (word p 0) 1; elevation = number p 1; demands = demandsOf p }
 
 unfoldable pub junctionEntry : List ℕ → Counts → Entry
-junctionEntry p c = nodeEntry (leb (word p 0) 1) (record { kind = Junction (junctionAt p) }) c
+junctionEntry p c = nodeEntry (leb (word p 0) 1) (record { kind = Junction (junctionOf p) }) c

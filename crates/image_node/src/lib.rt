@@ -1,7 +1,7 @@
 // What the payload of a node says (kinds 3, 4 and 5), and the first of numbers 4, 5 and 6 that it breaks.
 ghost use mathlib.Core.Path.{_≡_};
 ghost use Prim.Native.Nat.{_≤_};
-ghost use Rattle.image_node.specs.Entries.{nodeEntry, reservoirAt, reservoirEntry, tankAt, tankEntry, demandAt, demandsAt, junctionAt, junctionEntry};
+ghost use Rattle.image_node.specs.Entries.{nodeEntry, reservoirOf, reservoirEntry, tankOf, tankEntry, demandOf, demandsOf, junctionOf, junctionEntry};
 use image_entry::Entry;
 use image_entry::number;
 use image_entry::passed;
@@ -31,8 +31,8 @@ fn node_entry(flag: bool, n: Node, c: Counts) -> Entry
     passed(room, 4, right)
 }
 
-fn reservoir_at(p: &[u32]) -> Reservoir
-    ensures { λ r. ⌜ r ≡ reservoirAt (now (p .entry)) ⌝ }
+fn reservoir_of(p: &[u32]) -> Reservoir
+    ensures { λ r. ⌜ r ≡ reservoirOf (now (p .entry)) ⌝ }
 {
     Reservoir {
         elevation: number(p, 0),
@@ -44,13 +44,13 @@ pub fn reservoir_entry(p: &[u32], c: Counts) -> Entry
     ensures { λ r. ⌜ r ≡ reservoirEntry (now (p .entry)) c ⌝ }
 {
     let node = Node {
-        kind: NodeType::Reservoir(reservoir_at(p)),
+        kind: NodeType::Reservoir(reservoir_of(p)),
     };
     node_entry(true, node, c)
 }
 
-fn tank_at(p: &[u32]) -> Tank
-    ensures { λ r. ⌜ r ≡ tankAt (now (p .entry)) ⌝ }
+fn tank_of(p: &[u32]) -> Tank
+    ensures { λ r. ⌜ r ≡ tankOf (now (p .entry)) ⌝ }
 {
     Tank {
         elevation: Feet(number(p, 0)),
@@ -66,15 +66,15 @@ pub fn tank_entry(p: &[u32], c: Counts) -> Entry
     ensures { λ r. ⌜ r ≡ tankEntry (now (p .entry)) c ⌝ }
 {
     let node = Node {
-        kind: NodeType::Tank(tank_at(p)),
+        kind: NodeType::Tank(tank_of(p)),
     };
     node_entry(word(p, 10) <= 1, node, c)
 }
 
 // The demand whose words begin at a place.
-fn demand_at(p: &[u32], i: usize) -> Demand
+fn demand_of(p: &[u32], i: usize) -> Demand
     requires { ⌜ i ≤ 12 ⌝ }
-    ensures { λ r. ⌜ r ≡ demandAt (now (p .entry)) i ⌝ }
+    ensures { λ r. ⌜ r ≡ demandOf (now (p .entry)) i ⌝ }
 {
     Demand {
         base: number(p, i),
@@ -83,36 +83,36 @@ fn demand_at(p: &[u32], i: usize) -> Demand
 }
 
 // The demands of a junction, by the size of its payload.
-fn demands_at(p: &[u32]) -> Demands
-    ensures { λ r. ⌜ r ≡ demandsAt (now (p .entry)) ⌝ }
+fn demands_of(p: &[u32]) -> Demands
+    ensures { λ r. ⌜ r ≡ demandsOf (now (p .entry)) ⌝ }
 {
     let n = p.len();
     if n < 6 {
         return Demands::NoDemand;
     }
-    let a = demand_at(p, 3);
+    let a = demand_of(p, 3);
     if n < 9 {
         return Demands::One(a);
     }
-    let b = demand_at(p, 6);
+    let b = demand_of(p, 6);
     if n < 12 {
         return Demands::Two(a, b);
     }
-    let c = demand_at(p, 9);
+    let c = demand_of(p, 9);
     if n < 15 {
         return Demands::Three(a, b, c);
     }
-    let d = demand_at(p, 12);
+    let d = demand_of(p, 12);
     Demands::Four(a, b, c, d)
 }
 
-fn junction_at(p: &[u32]) -> Junction
-    ensures { λ r. ⌜ r ≡ junctionAt (now (p .entry)) ⌝ }
+fn junction_of(p: &[u32]) -> Junction
+    ensures { λ r. ⌜ r ≡ junctionOf (now (p .entry)) ⌝ }
 {
     Junction {
         disabled: word(p, 0) == 1,
         elevation: number(p, 1),
-        demands: demands_at(p),
+        demands: demands_of(p),
     }
 }
 
@@ -120,7 +120,7 @@ pub fn junction_entry(p: &[u32], c: Counts) -> Entry
     ensures { λ r. ⌜ r ≡ junctionEntry (now (p .entry)) c ⌝ }
 {
     let node = Node {
-        kind: NodeType::Junction(junction_at(p)),
+        kind: NodeType::Junction(junction_of(p)),
     };
     node_entry(word(p, 0) <= 1, node, c)
 }

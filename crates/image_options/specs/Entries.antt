@@ -13,8 +13,8 @@ use Rattle.image_entry.specs.declared.entry.Entry.the-variants as entries
 
 -- 1 options: "duration, hydraulic, report, pattern timestep, pattern start, start clock, flags (1 skip, 2 PDA), default pattern, demand
 -- multiplier". The default pattern is judged after the last record.
-unfoldable pub optionsAt : List ℕ → Options
-optionsAt p = record {
+unfoldable pub optionsOf : List ℕ → Options
+optionsOf p = record {
   duration = word p 0;
   hydraulic = word p 1;
   report = word p 2;
@@ -28,4 +28,4 @@ optionsAt p = record {
 }
 
 unfoldable pub optionsEntry : List ℕ → Entry
-optionsEntry p = passed (leb (word p 6) 3 && optionsOk (optionsAt p)) 5 (entries.Options (optionsAt p))
+optionsEntry p = passed (leb (word p 6) 3 && optionsOk (optionsOf p)) 5 (entries.Options (optionsOf p))

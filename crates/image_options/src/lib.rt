@@ -1,6 +1,6 @@
 // What the payload of the options says (kind 1), and number 5 where it breaks it.
 ghost use mathlib.Core.Path.{_≡_};
-ghost use Rattle.image_options.specs.Entries.{optionsAt, optionsEntry};
+ghost use Rattle.image_options.specs.Entries.{optionsOf, optionsEntry};
 use image_entry::Entry;
 use image_entry::number;
 use image_entry::passed;
@@ -9,8 +9,8 @@ use image_entry::word;
 use model::Options;
 use table_ranges::options_ok;
 
-fn options_at(p: &[u32]) -> Options
-    ensures { λ r. ⌜ r ≡ optionsAt (now (p .entry)) ⌝ }
+fn options_of(p: &[u32]) -> Options
+    ensures { λ r. ⌜ r ≡ optionsOf (now (p .entry)) ⌝ }
 {
     let flags = word(p, 6);
     Options {
@@ -30,7 +30,7 @@ fn options_at(p: &[u32]) -> Options
 pub fn options_entry(p: &[u32]) -> Entry
     ensures { λ r. ⌜ r ≡ optionsEntry (now (p .entry)) ⌝ }
 {
-    let o = options_at(p);
+    let o = options_of(p);
     let words = (word(p, 6) <= 3) & options_ok(o);
     passed(words, 5, Entry::Options(o))
 }

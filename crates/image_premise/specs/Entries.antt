@@ -59,8 +59,8 @@ comparisonOf code = cond (eqb code 0) Eq (cond (eqb code 1) Ne (cond (eqb code 2
 unfoldable pub valueOf : ℕ → ℕ → ℕ → ConditionValue
 valueOf sort lo hi = cond (eqb sort 0) (values.Number (fromWords lo hi)) (cond (eqb sort 1) (values.Status lo) (values.Time lo))
 
-unfoldable pub premiseAt : List ℕ → Premise
-premiseAt p = record {
+unfoldable pub premiseOf : List ℕ → Premise
+premiseOf p = record {
   operator = operatorOf (word p 0);
   target = targetOf (word p 1) (word p 2);
   comparison = comparisonOf (word p 3);
@@ -77,5 +77,5 @@ premiseWordsOk p =
 unfoldable pub premiseEntry : List ℕ → Counts → Entry
 premiseEntry p c =
     passed (ltb (c .premises) 128) 4
-    (passed (premiseWordsOk p && premiseOk (premiseAt p)) 5
-    (passed (premiseIndicesOk (c .nodes) (c .links) (premiseAt p .target)) 6 (entries.Premise (premiseAt p))))
+    (passed (premiseWordsOk p && premiseOk (premiseOf p)) 5
+    (passed (premiseIndicesOk (c .nodes) (c .links) (premiseOf p .target)) 6 (entries.Premise (premiseOf p))))

@@ -1,6 +1,6 @@
 // What the payload of a premise says (kind 8), and the first of numbers 4, 5 and 6 that it breaks.
 ghost use mathlib.Core.Path.{_≡_};
-ghost use Rattle.image_premise.specs.Entries.{operatorOf, nodeAttributeOf, tankAttributeOf, linkAttributeOf, systemAttributeOf, targetOf, comparisonOf, valueOf, premiseAt, premiseWordsOk, premiseEntry};
+ghost use Rattle.image_premise.specs.Entries.{operatorOf, nodeAttributeOf, tankAttributeOf, linkAttributeOf, systemAttributeOf, targetOf, comparisonOf, valueOf, premiseOf, premiseWordsOk, premiseEntry};
 use image_entry::Entry;
 use image_entry::passed;
 use image_entry::word;
@@ -125,8 +125,8 @@ fn value_of(sort: u32, lo: u32, hi: u32) -> ConditionValue
     ConditionValue::Time(lo)
 }
 
-fn premise_at(p: &[u32]) -> Premise
-    ensures { λ r. ⌜ r ≡ premiseAt (now (p .entry)) ⌝ }
+fn premise_of(p: &[u32]) -> Premise
+    ensures { λ r. ⌜ r ≡ premiseOf (now (p .entry)) ⌝ }
 {
     Premise {
         operator: operator_of(word(p, 0)),
@@ -153,7 +153,7 @@ fn premise_words_ok(p: &[u32]) -> bool
 pub fn premise_entry(p: &[u32], c: Counts) -> Entry
     ensures { λ r. ⌜ r ≡ premiseEntry (now (p .entry)) c ⌝ }
 {
-    let q = premise_at(p);
+    let q = premise_of(p);
     let room = c.premises < 128;
     let words = premise_words_ok(p) & premise_ok(q);
     let indices = premise_indices_ok(c.nodes, c.links, q);

@@ -23,7 +23,7 @@ use Rattle.model.proofs.Loops.{held-at}
 use Rattle.table_ranges.specs.Ranges.{statusOk}
 use Rattle.table_entry.proofs.Tests.{each}
 use Rattle.judge.specs.Fit.{NodeStateFit, LinkStateFit, StateFit}
-use Rattle.judge.specs.Judgement.{nodeStateOk, linkStateOk, clockOk, nodeStateOkAt, nodeStatesOk, linkStateOkAt, linkStatesOk, stateOk}
+use Rattle.judge.specs.Judgement.{nodeStateOk, linkStateOk, stateClockOk, nodeStateOkAt, nodeStatesOk, linkStateOkAt, linkStatesOk, stateOk}
 
 -- ---- the limits, as numbers
 flow-limit : HasValue (decimal 1000000000000 0) false (10 ^ 12) 1
@@ -91,7 +91,7 @@ link-state-ok x f =
 
 -- ---- the state
 pub state-fit : (p : Project) (s : State) → stateOk p s ≡ true → StateFit p s
-unfolding stateOk clockOk nodeStatesOk linkStatesOk
+unfolding stateOk stateClockOk nodeStatesOk linkStatesOk
 state-fit p s e =
     let h = each (leb (s .clock .instant) (p .options .duration) && leb (s .clock .count) (s .clock .instant)) (_ ∷ _ ∷ []) e in
     let c = each (leb (s .clock .instant) (p .options .duration)) (_ ∷ []) (h 0) in
@@ -103,7 +103,7 @@ state-fit p s e =
     }
 
 pub state-ok : (p : Project) (s : State) → StateFit p s → stateOk p s ≡ true
-unfolding stateOk clockOk nodeStatesOk linkStatesOk
+unfolding stateOk stateClockOk nodeStatesOk linkStatesOk
 state-ok p s f =
     rw (
       le-leb _ _ (f .instant),

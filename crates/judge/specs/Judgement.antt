@@ -23,8 +23,8 @@ nodeStateOk x =
 unfoldable pub linkStateOk : LinkState → Bool
 linkStateOk x = within (decimal 1000000000000 0) (x .flow) && statusOk (x .status) && within (decimal 1000000 0) (x .setting)
 
-unfoldable pub clockOk : ℕ → Clock → Bool
-clockOk duration c = leb (c .instant) duration && leb (c .count) (c .instant)
+unfoldable pub stateClockOk : ℕ → Clock → Bool
+stateClockOk duration c = leb (c .instant) duration && leb (c .count) (c .instant)
 
 abbrev pub nodeStateOkAt : State → ℕ → Bool
 nodeStateOkAt s i = nodeStateOk (nodeStateAt s i)
@@ -39,7 +39,7 @@ unfoldable pub linkStatesOk : Project → State → Bool
 linkStatesOk p s = allBelow (p .counts .links) (linkStateOkAt s)
 
 unfoldable pub stateOk : Project → State → Bool
-stateOk p s = clockOk (p .options .duration) (s .clock) && nodeStatesOk p s && linkStatesOk p s
+stateOk p s = stateClockOk (p .options .duration) (s .clock) && nodeStatesOk p s && linkStatesOk p s
 
 -- number 10 is not given
 unfoldable pub inOrder : Project → State → Bool

@@ -1,7 +1,7 @@
 // Number 10: what every later call asks first of the tables and the state that it is handed.
 ghost use mathlib.Core.Path.{_≡_};
 ghost use Rattle.tables.specs.Tables.{Few};
-ghost use Rattle.judge.specs.Judgement.{nodeStateOk, linkStateOk, clockOk, nodeStatesOk, linkStatesOk, stateOk, inOrder};
+ghost use Rattle.judge.specs.Judgement.{nodeStateOk, linkStateOk, stateClockOk, nodeStatesOk, linkStatesOk, stateOk, inOrder};
 use clock::Clock;
 use model::*;
 use number::within;
@@ -22,8 +22,8 @@ fn link_state_ok(x: LinkState) -> bool
     within(1000000000000.0, x.flow) & status_ok(x.status) & within(1000000.0, x.setting)
 }
 
-fn clock_ok(duration: u32, c: Clock) -> bool
-    ensures { λ r. ⌜ r ≡ clockOk duration c ⌝ }
+fn state_clock_ok(duration: u32, c: Clock) -> bool
+    ensures { λ r. ⌜ r ≡ stateClockOk duration c ⌝ }
 {
     (c.instant <= duration) & (c.count <= c.instant)
 }
@@ -65,5 +65,5 @@ pub fn in_order(p: Project, s: State) -> bool
     if !tables_ok(p) {
         return false;
     }
-    clock_ok(p.options.duration, s.clock) & node_states_ok(p, s) & link_states_ok(p, s)
+    state_clock_ok(p.options.duration, s.clock) & node_states_ok(p, s) & link_states_ok(p, s)
 }

@@ -9,7 +9,7 @@ use lib.Dec.{eqb, ltb}
 use borrow.Author.Tests.{eq-eqb, ne-eqb}
 use lib.ListN.{length, drop}
 use Rattle.clock.proofs.Tests.{eqb-ind, ltb-ind}
-use Rattle.clock.specs.Machine.{bit, final, asked, answered, moved}
+use Rattle.clock.specs.Machine.{bit, final, asked, answered, timesMoved}
 use Rattle.model.specs.declared.project.Project.{Project}
 use Rattle.model.specs.declared.state.State.{State}
 use Rattle.model.proofs.Loops.{both-left, both-right}
@@ -34,7 +34,7 @@ use Rattle.demand3.proofs.Lawful.{lawful}
 use Rattle.demand3.proofs.Quiet.{quiet}
 use Rattle.demand3.proofs.Theorem.{demand3-of-tables}
 use Rattle.list_run.specs.Runs.{noneRun, counted, countedAll, runList, Answers}
-use Rattle.list_run.specs.declared.Ran.{Ran}
+use Rattle.list_run.specs.declared.ListRun.{ListRun}
 
 -- ---- one call
 asked-length : (a : PremiseAnswer) (s : State) → askedOf a s .length ≡ 0
@@ -88,7 +88,7 @@ module _ (p : Project) (c : Call) (s : State) (k : inOrder p s ≡ true) where
 
 -- a call counted, from its parts
 pub counted-is :
-    (p : Project) (c : Call) (r : Ran) (o : Outcome) (n m : ℕ) → o ≡ outcome p c (r .state) → n ≡ bit (isStep c)
+    (p : Project) (c : Call) (r : ListRun) (o : Outcome) (n m : ℕ) → o ≡ outcome p c (r .state) → n ≡ bit (isStep c)
     → m ≡ r .moves + moveOf (o .state .clock .instant) (r .state .clock .instant)
     → record { number = r .number; state = o .state; asked = r .asked + n; answered = r .answered + o .length; moves = m } ≡ counted p c r
 unfolding counted
@@ -101,7 +101,7 @@ pub one-move : (m after before : ℕ) → (after ≡ before → ⊥) → m + 1 �
 one-move m after before n = rw (ne-eqb after before n)
 
 -- ---- the run so far
-pub record Fits (p : Project) (r : Ran) (at : ℕ) : Type 0 where
+pub record Fits (p : Project) (r : ListRun) (at : ℕ) : Type 0 where
   pub order : inOrder p (r .state) ≡ true
   pub asks : r .asked ≤ at
   pub sum : r .answered ≤ r .state .clock .instant
@@ -111,7 +111,7 @@ pub bit-most : (b : Bool) → bit b ≤ 1
 bit-most true = omega arith
 bit-most false = omega arith
 
-pub counted-fits : (p : Project) (c : Call) (r : Ran) (at next : ℕ) → at < next → Fits p r at → Fits p (counted p c r) next
+pub counted-fits : (p : Project) (c : Call) (r : ListRun) (at next : ℕ) → at < next → Fits p r at → Fits p (counted p c r) next
 unfolding counted
 counted-fits p c r at next l f = record {
   order = lawful p .sound c (r .state) (f .order);
@@ -121,7 +121,7 @@ counted-fits p c r at next l f = record {
 }
 
 -- the words hold the counts
-module _ (p : Project) (c : Call) (r : Ran) (k : inOrder p (r .state) ≡ true) where
+module _ (p : Project) (c : Call) (r : ListRun) (k : inOrder p (r .state) ≡ true) where
   pub sum-fits : r .answered ≤ r .state .clock .instant → r .answered + outcome p c (r .state) .length < 2 ^ 32
   sum-fits l = omega (arith, after-instant p c (r .state) k, after-within p c (r .state) k)
 
@@ -130,13 +130,13 @@ module _ (p : Project) (c : Call) (r : Ran) (k : inOrder p (r .state) ≡ true) 
       let m : moveOf (outcome p c (r .state) .state .clock .instant) (r .state .clock .instant) ≡ 1 = rw (ne-eqb (outcome p c (r .state) .state .clock .instant) (r .state .clock .instant) n) in
       omega (arith, m, after-count p c (r .state) k, after-few p c (r .state) k, after-within p c (r .state) k)
 
-pub record Running (p : Project) (r₀ : Ran) (words : List ℕ) (at : ℕ) (r : Ran) : Type 0 where
+pub record Running (p : Project) (r₀ : ListRun) (words : List ℕ) (at : ℕ) (r : ListRun) : Type 0 where
   pub within : at ≤ length words
   pub whole : listOk 0 (drop at words) ≡ true
   pub fits : Fits p r at
   pub same : countedAll p (callsOf 0 words) r₀ ≡ countedAll p (callsOf 0 (drop at words)) r
 
-pub running : {p : Project} {s : State} {words : List ℕ} {r : Ran} → inOrder p s ≡ true → listOk 0 words ≡ true → r ≡ noneRun 0 s → Running p r words 0 r
+pub running : {p : Project} {s : State} {words : List ℕ} {r : ListRun} → inOrder p s ≡ true → listOk 0 words ≡ true → r ≡ noneRun 0 s → Running p r words 0 r
 running {p} {s} {words} k e q = rw q (record {
   within = omega arith;
   whole = e;
@@ -144,14 +144,14 @@ running {p} {s} {words} k e q = rw q (record {
   same = refl;
 })
 
-module _ {p : Project} {r₀ : Ran} {words : List ℕ} {at : ℕ} {r : Ran} (g : Running p r₀ words at r) (here : at < length words) where
+module _ {p : Project} {r₀ : ListRun} {words : List ℕ} {at : ℕ} {r : ListRun} (g : Running p r₀ words at r) (here : at < length words) where
   call-whole : callOk (rest words at) ≡ true
   call-whole = both-left _ (listOk 0 (drop (at + callLength (rest words at)) words)) (sym (ok-here words at here) ∙ g .whole)
 
   pub next-within : at + callLength (rest words at) ≤ length words
   next-within = fits-here words at here call-whole
 
-  pub ran-more : {u : Ran} → at < at + callLength (rest words at) → u ≡ counted p (callOf (rest words at)) r → Running p r₀ words (at + callLength (rest words at)) u
+  pub ran-more : {u : ListRun} → at < at + callLength (rest words at) → u ≡ counted p (callOf (rest words at)) r → Running p r₀ words (at + callLength (rest words at)) u
   unfolding countedAll
   ran-more {u} l e = rw e (record {
     within = next-within;
@@ -160,23 +160,23 @@ module _ {p : Project} {r₀ : Ran} {words : List ℕ} {at : ℕ} {r : Ran} (g :
     same = g .same ∙ ap (λ cs. countedAll p cs r) (calls-here words at here);
   })
 
-pub ran-all : {p : Project} {r₀ : Ran} {words : List ℕ} {at : ℕ} {r : Ran} → Running p r₀ words at r → length words ≤ at → r ≡ countedAll p (callsOf 0 words) r₀
+pub ran-all : {p : Project} {r₀ : ListRun} {words : List ℕ} {at : ℕ} {r : ListRun} → Running p r₀ words at r → length words ≤ at → r ≡ countedAll p (callsOf 0 words) r₀
 unfolding countedAll
 ran-all {p} {r₀} {words} {at} {r} g h = sym (g .same ∙ ap (λ cs. countedAll p cs r) (calls-end words at h))
 
 -- ---- what was counted along a list
 module _ (p : Project) where
-  all-state : (cs : List Call) (r : Ran) → countedAll p cs r .state ≡ final (machine p) cs (r .state)
+  all-state : (cs : List Call) (r : ListRun) → countedAll p cs r .state ≡ final (machine p) cs (r .state)
   unfolding countedAll counted final
   all-state [] r = refl
   all-state (c ∷ cs) r = all-state cs (counted p c r)
 
-  all-asked : (cs : List Call) (r : Ran) → countedAll p cs r .asked ≡ r .asked + asked (machine p) cs
+  all-asked : (cs : List Call) (r : ListRun) → countedAll p cs r .asked ≡ r .asked + asked (machine p) cs
   unfolding countedAll counted asked
   all-asked [] r = omega arith
   all-asked (c ∷ cs) r = omega (arith, all-asked cs (counted p c r))
 
-  all-answered : (cs : List Call) (r : Ran) → countedAll p cs r .answered ≡ r .answered + answered (machine p) cs (r .state)
+  all-answered : (cs : List Call) (r : ListRun) → countedAll p cs r .answered ≡ r .answered + answered (machine p) cs (r .state)
   unfolding countedAll counted answered
   all-answered [] r = omega arith
   all-answered (c ∷ cs) r = omega (arith, all-answered cs (counted p c r), answer-is (isStep c) refl)
@@ -185,12 +185,12 @@ module _ (p : Project) where
       answer-is true e = refl
       answer-is false e = sym (length-quiet p c (r .state) e)
 
-  all-moves : (cs : List Call) (r : Ran) → countedAll p cs r .moves ≡ r .moves + moved (machine p) cs (r .state)
-  unfolding countedAll counted moved
+  all-moves : (cs : List Call) (r : ListRun) → countedAll p cs r .moves ≡ r .moves + timesMoved (machine p) cs (r .state)
+  unfolding countedAll counted timesMoved
   all-moves [] r = omega arith
   all-moves (c ∷ cs) r = omega (arith, all-moves cs (counted p c r))
 
-  pub answers : (cs : List Call) (z : Ran) → tablesOk p ≡ true → z ≡ countedAll p cs (noneRun 0 (start p .state)) → Answers p cs z
+  pub answers : (cs : List Call) (z : ListRun) → tablesOk p ≡ true → z ≡ countedAll p cs (noneRun 0 (start p .state)) → Answers p cs z
   answers cs z e q = rw q (record {
     claim = rw (all-state cs (noneRun 0 (start p .state))) (demand3-of-tables p e cs);
     asks = omega (arith, all-asked cs (noneRun 0 (start p .state)));

@@ -13,7 +13,7 @@ use model::*;
 
 // The number, 0 where the list is run; the state that it leaves; the steps asked, the sum of the steps answered in seconds, and the times that the
 // clock moved.
-pub struct Ran {
+pub struct ListRun {
     pub number: u32,
     pub state: State,
     pub asked: u64,
@@ -21,10 +21,10 @@ pub struct Ran {
     pub moves: u32,
 }
 
-fn none_run(number: u32, s: State) -> Ran
+fn none_run(number: u32, s: State) -> ListRun
     ensures { λ r. ⌜ r ≡ noneRun number s ⌝ }
 {
-    Ran {
+    ListRun {
         number: number,
         state: s,
         asked: 0,
@@ -34,7 +34,7 @@ fn none_run(number: u32, s: State) -> Ran
 }
 
 // The run after the first call of some words.
-fn counted(p: Project, r: Ran, words: &[u32]) -> Ran
+fn counted(p: Project, r: ListRun, words: &[u32]) -> ListRun
     requires { ⌜ inOrder p (r .state) ≡ true ⌝ }
     requires { ⌜ (r .asked + 1 < 2 ^ 64) × (r .answered ≤ r .state .clock .instant) × (r .moves ≤ r .state .clock .count) ⌝ }
     ensures { λ z. ⌜ z ≡ counted p (callOf (now (words .entry))) r ⌝ }
@@ -46,7 +46,7 @@ fn counted(p: Project, r: Ran, words: &[u32]) -> Ran
     let answered = r.answered + o.length;
     let state = o.state;
     if state.clock.instant == before.clock.instant {
-        return Ran {
+        return ListRun {
             number: number,
             state: state,
             asked: asked,
@@ -54,7 +54,7 @@ fn counted(p: Project, r: Ran, words: &[u32]) -> Ran
             moves: r.moves,
         };
     }
-    Ran {
+    ListRun {
         number: number,
         state: state,
         asked: asked,
@@ -64,7 +64,7 @@ fn counted(p: Project, r: Ran, words: &[u32]) -> Ran
 }
 
 // The run of a list that has been found whole.
-fn run_calls(p: Project, s: State, words: &[u32]) -> Ran
+fn run_calls(p: Project, s: State, words: &[u32]) -> ListRun
     requires { ⌜ inOrder p s ≡ true ⌝ }
     requires { ⌜ listOk 0 (now words) ≡ true ⌝ }
     ensures { λ z. ⌜ z ≡ countedAll p (callsOf 0 (now (words .entry))) (noneRun 0 s) ⌝ }
@@ -80,7 +80,7 @@ fn run_calls(p: Project, s: State, words: &[u32]) -> Ran
     r
 }
 
-pub fn run_list(p: Project, words: &[u32]) -> Ran
+pub fn run_list(p: Project, words: &[u32]) -> ListRun
     ensures { λ z. ⌜ z ≡ runList p (now (words .entry)) ⌝ }
     ensures { λ z. ⌜ (z .number ≡ 0 → Answers p (callsOf 0 (now (words .entry))) z) ⌝ }
 {

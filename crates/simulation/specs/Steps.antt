@@ -3,19 +3,17 @@ use Prim.Native.Nat.{ℕ, zero, suc, min}
 use mathlib.Core.Bool.{Bool, cond, not, _&&_}
 use mathlib.Core.List.{List, [], _∷_, _++_}
 use lib.Dec.{eqb}
-use lib.Ieee.{Float}
 use Rattle.number.specs.Constants.{MAX}
 use Rattle.clock.specs.Steps.{advanced}
-use Rattle.clock.specs.Triggers.{Trigger, atTime, atClock, atLevel, untimed, Moment, lengthAt}
+use Rattle.clock.specs.Triggers.{Trigger, Moment, lengthAt}
 use Rattle.clock.specs.declared.length.Times.{Times}
 use Rattle.model.specs.Blank.{nodeAt, nodeStateAt, controlAt}
 use Rattle.model.specs.Loops.{through, allBelow}
 use Rattle.model.specs.Nodes.{isTank}
-use Rattle.model.specs.declared.control.ControlCondition.{ControlCondition}
-use Rattle.model.specs.declared.control.ControlCondition.the-variants.{HighPressure, LowPressure, HighLevel, LowLevel, Time, ClockTime}
 use Rattle.model.specs.declared.project.Project.{Project}
 use Rattle.model.specs.declared.state.State.{State}
 use Rattle.control.specs.Controls.{levelTime}
+pub use Rattle.control.specs.Controls.{Level, triggerOf}
 use Rattle.state.specs.Tanks.{updateTanks}
 use Rattle.state_node.specs.Tanks.{tankCandidate}
 use Rattle.simulation.specs.declared.step.Stepped.{Stepped}
@@ -44,21 +42,6 @@ timesOf p =
     }
 
 -- ---- the controls
--- a level control's tank and target
-pub record Level : Type 0 where
-  pub tank : ℕ
-  pub target : Float
-
--- when a control calls for a stop. "Pressure controls, and level controls whose node is no tank, give no candidate": the former here, the latter by
--- `levelTime`, which is MAX there
-abbrev pub triggerOf : ControlCondition → Trigger Level
-triggerOf (HighPressure n x) = untimed
-triggerOf (LowPressure n x) = untimed
-triggerOf (HighLevel n x) = atLevel (record { tank = n; target = x })
-triggerOf (LowLevel n x) = atLevel (record { tank = n; target = x })
-triggerOf (Time s) = atTime s
-triggerOf (ClockTime s) = atClock s
-
 -- f at 0, at 1, .. and at n - 1
 unfoldable pub listed : {A : Type 0} → ℕ → (ℕ → A) → List A
 listed zero f = []

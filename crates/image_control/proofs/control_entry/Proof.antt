@@ -4,8 +4,8 @@ use borrow.Author.Needs.{needs}
 use Rattle.image_control.proofs.control_entry.Statement.{statement}
 use Rattle.image_control.proofs.control_entry.Tie as tie
 
-control-at-requires : tie.Need-control-at-requires
-control-at-requires c κs = search needs
+control-of-requires : tie.Need-control-of-requires
+control-of-requires c κs = search needs
 
 control-words-ok-requires : tie.Need-control-words-ok-requires
 control-words-ok-requires c κs = search needs
@@ -33,7 +33,7 @@ pub control-entry-spec : {M : Type 1} → statement M
 control-entry-spec =
     tie.close
     (tie.spec
-    control-at-requires
+    control-of-requires
     control-words-ok-requires
     control-ok-requires
     control-indices-ok-requires

@@ -4,8 +4,8 @@ use borrow.Author.Needs.{needs}
 use Rattle.image_link.proofs.link_entry.Statement.{statement}
 use Rattle.image_link.proofs.link_entry.Tie as tie
 
-link-at-requires : tie.Need-link-at-requires
-link-at-requires c κs = search needs
+link-of-requires : tie.Need-link-of-requires
+link-of-requires c κs = search needs
 
 link-words-ok-requires : tie.Need-link-words-ok-requires
 link-words-ok-requires c κs = search needs
@@ -33,7 +33,7 @@ pub link-entry-spec : {M : Type 1} → statement M
 link-entry-spec =
     tie.close
     (tie.spec
-    link-at-requires
+    link-of-requires
     link-words-ok-requires
     link-ok-requires
     link-indices-ok-requires

@@ -4,8 +4,8 @@ use borrow.Author.Needs.{needs}
 use Rattle.image_node.proofs.junction_entry.Statement.{statement}
 use Rattle.image_node.proofs.junction_entry.Tie as tie
 
-junction-at-requires : tie.Need-junction-at-requires
-junction-at-requires c κs = search needs
+junction-of-requires : tie.Need-junction-of-requires
+junction-of-requires c κs = search needs
 
 word-requires : tie.Need-word-requires
 word-requires c κs = search needs
@@ -19,4 +19,4 @@ returns c = cc
 
 pub junction-entry-spec : {M : Type 1} → statement M
 junction-entry-spec =
-    tie.close (tie.spec junction-at-requires word-requires node-entry-requires returns)
+    tie.close (tie.spec junction-of-requires word-requires node-entry-requires returns)

@@ -4,8 +4,8 @@ use borrow.Author.Needs.{needs}
 use Rattle.image_node.proofs.reservoir_entry.Statement.{statement}
 use Rattle.image_node.proofs.reservoir_entry.Tie as tie
 
-reservoir-at-requires : tie.Need-reservoir-at-requires
-reservoir-at-requires c κs = search needs
+reservoir-of-requires : tie.Need-reservoir-of-requires
+reservoir-of-requires c κs = search needs
 
 node-entry-requires : tie.Need-node-entry-requires
 node-entry-requires c κs = search needs
@@ -15,4 +15,4 @@ unfolding reservoirEntry
 returns c = cc
 
 pub reservoir-entry-spec : {M : Type 1} → statement M
-reservoir-entry-spec = tie.close (tie.spec reservoir-at-requires node-entry-requires returns)
+reservoir-entry-spec = tie.close (tie.spec reservoir-of-requires node-entry-requires returns)

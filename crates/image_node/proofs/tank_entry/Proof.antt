@@ -4,8 +4,8 @@ use borrow.Author.Needs.{needs}
 use Rattle.image_node.proofs.tank_entry.Statement.{statement}
 use Rattle.image_node.proofs.tank_entry.Tie as tie
 
-tank-at-requires : tie.Need-tank-at-requires
-tank-at-requires c κs = search needs
+tank-of-requires : tie.Need-tank-of-requires
+tank-of-requires c κs = search needs
 
 word-requires : tie.Need-word-requires
 word-requires c κs = search needs
@@ -18,4 +18,4 @@ unfolding tankEntry
 returns c = cc
 
 pub tank-entry-spec : {M : Type 1} → statement M
-tank-entry-spec = tie.close (tie.spec tank-at-requires word-requires node-entry-requires returns)
+tank-entry-spec = tie.close (tie.spec tank-of-requires word-requires node-entry-requires returns)

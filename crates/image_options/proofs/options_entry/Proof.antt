@@ -4,8 +4,8 @@ use borrow.Author.Needs.{needs}
 use Rattle.image_options.proofs.options_entry.Statement.{statement}
 use Rattle.image_options.proofs.options_entry.Tie as tie
 
-options-at-requires : tie.Need-options-at-requires
-options-at-requires c κs = search needs
+options-of-requires : tie.Need-options-of-requires
+options-of-requires c κs = search needs
 
 word-requires : tie.Need-word-requires
 word-requires c κs = search needs
@@ -23,4 +23,4 @@ returns c = cc
 pub options-entry-spec : {M : Type 1} → statement M
 options-entry-spec =
     tie.close
-    (tie.spec options-at-requires word-requires options-ok-requires passed-requires returns)
+    (tie.spec options-of-requires word-requires options-ok-requires passed-requires returns)

@@ -4,8 +4,8 @@ use borrow.Author.Needs.{needs}
 use Rattle.image_premise.proofs.premise_entry.Statement.{statement}
 use Rattle.image_premise.proofs.premise_entry.Tie as tie
 
-premise-at-requires : tie.Need-premise-at-requires
-premise-at-requires c κs = search needs
+premise-of-requires : tie.Need-premise-of-requires
+premise-of-requires c κs = search needs
 
 premise-words-ok-requires : tie.Need-premise-words-ok-requires
 premise-words-ok-requires c κs = search needs
@@ -33,7 +33,7 @@ pub premise-entry-spec : {M : Type 1} → statement M
 premise-entry-spec =
     tie.close
     (tie.spec
-    premise-at-requires
+    premise-of-requires
     premise-words-ok-requires
     premise-ok-requires
     premise-indices-ok-requires

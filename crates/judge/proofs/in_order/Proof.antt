@@ -14,8 +14,8 @@ returns : tie.Need-returns
 unfolding inOrder
 returns c = rw (← c .before .tables-ok .ensures, not-true (c .before .tables-ok .result) (c .if1 .taken))
 
-clock-ok-requires : tie.Need-clock-ok-requires
-clock-ok-requires c κs = search needs
+state-clock-ok-requires : tie.Need-state-clock-ok-requires
+state-clock-ok-requires c κs = search needs
 
 node-states-ok-requires : tie.Need-node-states-ok-requires
 node-states-ok-requires c κs = tables-fit (c .before .before .before .args .p) (sym (c .before .before .tables-ok .ensures) ∙ not-false (c .before .before .tables-ok .result) (c .before .if1 .left)) .few
@@ -25,7 +25,7 @@ link-states-ok-requires c κs = tables-fit (c .before .before .before .before .a
 
 returns-2 : tie.Need-returns-2
 unfolding inOrder stateOk
-returns-2 c = rw (← c .before .before .before .before .tables-ok .ensures, not-false (c .before .before .before .before .tables-ok .result) (c .before .before .before .if1 .left), c .before .before .clock-ok .ensures, c .before .node-states-ok .ensures, c .link-states-ok .ensures)
+returns-2 c = rw (← c .before .before .before .before .tables-ok .ensures, not-false (c .before .before .before .before .tables-ok .result) (c .before .before .before .if1 .left), c .before .before .state-clock-ok .ensures, c .before .node-states-ok .ensures, c .link-states-ok .ensures)
 
 pub in-order-spec : {M : Type 1} → statement M
 in-order-spec =
@@ -33,7 +33,7 @@ in-order-spec =
     (tie.spec
     tables-ok-requires
     returns
-    clock-ok-requires
+    state-clock-ok-requires
     node-states-ok-requires
     link-states-ok-requires
     returns-2)

@@ -17,7 +17,7 @@ use Rattle.calls.specs.declared.Called.{Called}
 use Rattle.calls_sound.proofs.Theorem.{start-in-order}
 use Rattle.list_words.specs.Lists.{callsOf, listOk}
 use Rattle.list_run.specs.Runs.{noneRun, countedAll, runList, Answers}
-use Rattle.list_run.specs.declared.Ran.{Ran}
+use Rattle.list_run.specs.declared.ListRun.{ListRun}
 use Rattle.list_run.proofs.Counts.{answers}
 use borrow.Author.Needs.{needs}
 use Rattle.list_run.proofs.run_list.Statement.{statement}
@@ -34,18 +34,18 @@ start-tables p = go (tablesOk p) refl
     go true e z = e
     go false e z = absurd (no-fault 10 (lit≤ tt) z)
 
-module _ (p : Project) (words : List ℕ) (z : Ran) where
+module _ (p : Project) (words : List ℕ) (z : ListRun) where
   refused-start :
       (start p .number ≡ 0 → ⊥) → z ≡ noneRun (start p .number) (start p .state)
       → (z ≡ runList p words) × (z .number ≡ 0 → Answers p (callsOf 0 words) z)
   unfolding runList
-  refused-start n e = (rw (ne-eqb (start p .number) 0 n) e, λ q. absurd (n (sym (ap (λ (r : Ran). r .number) e) ∙ q)))
+  refused-start n e = (rw (ne-eqb (start p .number) 0 n) e, λ q. absurd (n (sym (ap (λ (r : ListRun). r .number) e) ∙ q)))
 
   refused-list :
       start p .number ≡ 0 → listOk 0 words ≡ false → z ≡ noneRun 18 (start p .state)
       → (z ≡ runList p words) × (z .number ≡ 0 → Answers p (callsOf 0 words) z)
   unfolding runList
-  refused-list n l e = (rw (eq-eqb (start p .number) 0 n, l) e, λ q. absurd (no-fault 18 (lit≤ tt) (sym (ap (λ (r : Ran). r .number) e) ∙ q)))
+  refused-list n l e = (rw (eq-eqb (start p .number) 0 n, l) e, λ q. absurd (no-fault 18 (lit≤ tt) (sym (ap (λ (r : ListRun). r .number) e) ∙ q)))
 
   ran-list :
       start p .number ≡ 0 → listOk 0 words ≡ true → z ≡ countedAll p (callsOf 0 words) (noneRun 0 (start p .state))

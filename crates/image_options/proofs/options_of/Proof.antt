@@ -1,8 +1,8 @@
--- `image_options::options_at` meets its contract. The calls' equations, by congruence. Assumes nothing.
-use Rattle.image_options.specs.Entries.{optionsAt}
+-- `image_options::options_of` meets its contract. The calls' equations, by congruence. Assumes nothing.
+use Rattle.image_options.specs.Entries.{optionsOf}
 use borrow.Author.Needs.{needs}
-use Rattle.image_options.proofs.options_at.Statement.{statement}
-use Rattle.image_options.proofs.options_at.Tie as tie
+use Rattle.image_options.proofs.options_of.Statement.{statement}
+use Rattle.image_options.proofs.options_of.Tie as tie
 
 word-requires : tie.Need-word-requires
 word-requires c κs = search needs
@@ -35,11 +35,11 @@ number-requires : tie.Need-number-requires
 number-requires c κs = search needs
 
 returns : tie.Need-returns
-unfolding optionsAt
+unfolding optionsOf
 returns c = cc
 
-pub options-at-spec : {M : Type 1} → statement M
-options-at-spec =
+pub options-of-spec : {M : Type 1} → statement M
+options-of-spec =
     tie.close
     (tie.spec
     word-requires

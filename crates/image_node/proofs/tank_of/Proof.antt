@@ -1,8 +1,8 @@
--- `image_node::tank_at` meets its contract. The calls' equations. Assumes nothing.
-use Rattle.image_node.specs.Entries.{tankAt}
+-- `image_node::tank_of` meets its contract. The calls' equations. Assumes nothing.
+use Rattle.image_node.specs.Entries.{tankOf}
 use borrow.Author.Needs.{needs}
-use Rattle.image_node.proofs.tank_at.Statement.{statement}
-use Rattle.image_node.proofs.tank_at.Tie as tie
+use Rattle.image_node.proofs.tank_of.Statement.{statement}
+use Rattle.image_node.proofs.tank_of.Tie as tie
 
 number-requires : tie.Need-number-requires
 number-requires c κs = search needs
@@ -23,7 +23,7 @@ word-requires : tie.Need-word-requires
 word-requires c κs = search needs
 
 returns : tie.Need-returns
-unfolding tankAt
+unfolding tankOf
 returns c = rw (
   c .word .ensures,
   c .before .number5 .ensures,
@@ -33,8 +33,8 @@ returns c = rw (
   c .before .before .before .before .before .number .ensures,
 )
 
-pub tank-at-spec : {M : Type 1} → statement M
-tank-at-spec =
+pub tank-of-spec : {M : Type 1} → statement M
+tank-of-spec =
     tie.close
     (tie.spec
     number-requires

@@ -1,8 +1,8 @@
--- `image_control::control_at` meets its contract. The calls' equations, by congruence. Assumes nothing.
-use Rattle.image_control.specs.Entries.{controlAt}
+-- `image_control::control_of` meets its contract. The calls' equations, by congruence. Assumes nothing.
+use Rattle.image_control.specs.Entries.{controlOf}
 use borrow.Author.Needs.{needs}
-use Rattle.image_control.proofs.control_at.Statement.{statement}
-use Rattle.image_control.proofs.control_at.Tie as tie
+use Rattle.image_control.proofs.control_of.Statement.{statement}
+use Rattle.image_control.proofs.control_of.Tie as tie
 
 number-requires : tie.Need-number-requires
 number-requires c κs = search needs
@@ -38,11 +38,11 @@ setting-action-of-requires : tie.Need-setting-action-of-requires
 setting-action-of-requires c κs = search needs
 
 returns : tie.Need-returns
-unfolding controlAt
+unfolding controlOf
 returns c = cc
 
-pub control-at-spec : {M : Type 1} → statement M
-control-at-spec =
+pub control-of-spec : {M : Type 1} → statement M
+control-of-spec =
     tie.close
     (tie.spec
     number-requires

@@ -1,8 +1,8 @@
--- `image_link::link_at` meets its contract. The calls' equations, by congruence. Assumes nothing.
-use Rattle.image_link.specs.Entries.{linkAt}
+-- `image_link::link_of` meets its contract. The calls' equations, by congruence. Assumes nothing.
+use Rattle.image_link.specs.Entries.{linkOf}
 use borrow.Author.Needs.{needs}
-use Rattle.image_link.proofs.link_at.Statement.{statement}
-use Rattle.image_link.proofs.link_at.Tie as tie
+use Rattle.image_link.proofs.link_of.Statement.{statement}
+use Rattle.image_link.proofs.link_of.Tie as tie
 
 number-requires : tie.Need-number-requires
 number-requires c κs = search needs
@@ -32,11 +32,11 @@ link-type-of-requires : tie.Need-link-type-of-requires
 link-type-of-requires c κs = search needs
 
 returns : tie.Need-returns
-unfolding linkAt
+unfolding linkOf
 returns c = cc
 
-pub link-at-spec : {M : Type 1} → statement M
-link-at-spec =
+pub link-of-spec : {M : Type 1} → statement M
+link-of-spec =
     tie.close
     (tie.spec
     number-requires

@@ -1,8 +1,8 @@
--- `image_node::reservoir_at` meets its contract. The calls' equations, by congruence. Assumes nothing.
-use Rattle.image_node.specs.Entries.{reservoirAt}
+-- `image_node::reservoir_of` meets its contract. The calls' equations, by congruence. Assumes nothing.
+use Rattle.image_node.specs.Entries.{reservoirOf}
 use borrow.Author.Needs.{needs}
-use Rattle.image_node.proofs.reservoir_at.Statement.{statement}
-use Rattle.image_node.proofs.reservoir_at.Tie as tie
+use Rattle.image_node.proofs.reservoir_of.Statement.{statement}
+use Rattle.image_node.proofs.reservoir_of.Tie as tie
 
 number-requires : tie.Need-number-requires
 number-requires c κs = search needs
@@ -14,9 +14,9 @@ pattern-index-of-requires : tie.Need-pattern-index-of-requires
 pattern-index-of-requires c κs = search needs
 
 returns : tie.Need-returns
-unfolding reservoirAt
+unfolding reservoirOf
 returns c = cc
 
-pub reservoir-at-spec : {M : Type 1} → statement M
-reservoir-at-spec =
+pub reservoir-of-spec : {M : Type 1} → statement M
+reservoir-of-spec =
     tie.close (tie.spec number-requires word-requires pattern-index-of-requires returns)

@@ -1,8 +1,8 @@
--- `image_premise::premise_at` meets its contract. The calls' equations, by congruence. Assumes nothing.
-use Rattle.image_premise.specs.Entries.{premiseAt}
+-- `image_premise::premise_of` meets its contract. The calls' equations, by congruence. Assumes nothing.
+use Rattle.image_premise.specs.Entries.{premiseOf}
 use borrow.Author.Needs.{needs}
-use Rattle.image_premise.proofs.premise_at.Statement.{statement}
-use Rattle.image_premise.proofs.premise_at.Tie as tie
+use Rattle.image_premise.proofs.premise_of.Statement.{statement}
+use Rattle.image_premise.proofs.premise_of.Tie as tie
 
 word-requires : tie.Need-word-requires
 word-requires c κs = search needs
@@ -38,11 +38,11 @@ value-of-requires : tie.Need-value-of-requires
 value-of-requires c κs = search needs
 
 returns : tie.Need-returns
-unfolding premiseAt
+unfolding premiseOf
 returns c = cc
 
-pub premise-at-spec : {M : Type 1} → statement M
-premise-at-spec =
+pub premise-of-spec : {M : Type 1} → statement M
+premise-of-spec =
     tie.close
     (tie.spec
     word-requires

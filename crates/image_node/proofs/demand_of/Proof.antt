@@ -1,8 +1,8 @@
--- `image_node::demand_at` meets its contract. The calls' equations, by congruence. Assumes nothing.
-use Rattle.image_node.specs.Entries.{demandAt}
+-- `image_node::demand_of` meets its contract. The calls' equations, by congruence. Assumes nothing.
+use Rattle.image_node.specs.Entries.{demandOf}
 use borrow.Author.Needs.{needs}
-use Rattle.image_node.proofs.demand_at.Statement.{statement}
-use Rattle.image_node.proofs.demand_at.Tie as tie
+use Rattle.image_node.proofs.demand_of.Statement.{statement}
+use Rattle.image_node.proofs.demand_of.Tie as tie
 
 number-requires : tie.Need-number-requires
 number-requires c κs = search needs
@@ -17,9 +17,9 @@ pattern-index-of-requires : tie.Need-pattern-index-of-requires
 pattern-index-of-requires c κs = search needs
 
 returns : tie.Need-returns
-unfolding demandAt
+unfolding demandOf
 returns c = cc
 
-pub demand-at-spec : {M : Type 1} → statement M
-demand-at-spec =
+pub demand-of-spec : {M : Type 1} → statement M
+demand-of-spec =
     tie.close (tie.spec number-requires add-word word-requires pattern-index-of-requires returns)
