@@ -58,7 +58,8 @@ pressure p s =
 unfoldable pub premise : Project → ℕ → State → PremiseAnswer
 premise p i s = cond (inOrder p s) (cond (ltb i (p .counts .premises)) (Truth (premiseTruthAt p s i)) (Refused 9)) (Refused 10)
 
--- a premise's number, 0 where it is answered, and its truth where it has one
+-- "Where an answer is an enum, a definition gives this paper's number and values for each case of the enum": the number, 0 where the premise is answered,
+-- and its truth, where it has one
 abbrev pub premiseNumber : PremiseAnswer → ℕ
 premiseNumber (Truth b) = 0
 premiseNumber (Refused n) = n
@@ -66,6 +67,13 @@ premiseNumber (Refused n) = n
 abbrev pub premiseTruths : PremiseAnswer → List Bool
 premiseTruths (Truth b) = b ∷ []
 premiseTruths (Refused n) = []
+
+-- what they are: 10 first, then 9; "A refused premise yields no truth."
+unfoldable pub numberOfPremise : Project → ℕ → State → ℕ
+numberOfPremise p i s = cond (inOrder p s) (cond (ltb i (p .counts .premises)) 0 9) 10
+
+unfoldable pub truthsOfPremise : Project → ℕ → State → List Bool
+truthsOfPremise p i s = cond (inOrder p s) (cond (ltb i (p .counts .premises)) (premiseTruthAt p s i ∷ []) []) []
 
 -- the step also answers its length; refused, it has none
 unfoldable pub step : Project → State → StepCalled

@@ -1,6 +1,6 @@
 // The public calls: each judges the tables and the state first (10), and yields the number and the same state where it refuses.
 ghost use mathlib.Core.Path.{_≡_};
-ghost use Rattle.calls.specs.Calls.{start, patterns, controls, load, tankLinks, pressure, premise, step};
+ghost use Rattle.calls.specs.Calls.{start, patterns, controls, load, tankLinks, pressure, premise, premiseNumber, premiseTruths, numberOfPremise, truthsOfPremise, step};
 use judge::in_order;
 use model::*;
 use tables::tables_ok;
@@ -141,6 +141,7 @@ pub fn apply_pressure_controls(p: Project, s: State) -> PressureCalled
 // Whether a premise holds.
 pub fn premise_truth(p: Project, s: State, i: usize) -> PremiseAnswer
     ensures { λ r. ⌜ r ≡ premise p i s ⌝ }
+    ensures { λ r. ⌜ (premiseNumber r ≡ numberOfPremise p i s) × (premiseTruths r ≡ truthsOfPremise p i s) ⌝ }
 {
     if !in_order(p, s) {
         return PremiseAnswer::Refused(10);

@@ -1,15 +1,16 @@
 // One call of a list, run by its words.
 ghost use mathlib.Core.Path.{_≡_};
-ghost use mathlib.Core.List.{List};
-ghost use lib.ListN.{take, drop};
+ghost use Prim.Native.Nat.{_+_, _≤_};
+ghost use lib.ListN.{length, take, drop};
 ghost use Rattle.image_entry.specs.Words.{word as wordOf};
 ghost use Rattle.calls.specs.Calls.{load};
-ghost use Rattle.demand3.specs.Calls.{called, asked, outcome};
-ghost use Rattle.list_words.specs.Lists.{callOf};
+ghost use Rattle.demand3.specs.Calls.{called, asked};
+ghost use Rattle.list_call.specs.FirstCall.{firstCall};
 use calls::Called;
 use calls::PremiseAnswer;
 use demand3::Outcome;
 use image_entry::word;
+use list_words::call_ok;
 use model::*;
 
 fn called(c: Called) -> Outcome
@@ -43,26 +44,27 @@ fn asked(a: PremiseAnswer, s: State) -> Outcome
     }
 }
 
-// The load whose count and words stand behind the code; where fewer stand there, those.
+// The load whose count and words stand behind the code.
 fn load_call(p: Project, s: State, words: &[u32]) -> Called
+    requires { ⌜ 2 + wordOf (now words) 1 ≤ length (now words) ⌝ }
     ensures { λ r. ⌜ r ≡ load p (take (wordOf (now (words .entry)) 1) (drop 2 (now (words .entry)))) s ⌝ }
 {
-    let n = words.len();
-    let count = word(words, 1) as usize;
-    if n < 2 {
-        return calls::take_load(p, s, &words[n..]);
-    }
-    if n - 2 <= count {
-        return calls::take_load(p, s, &words[2..]);
-    }
-    let to = 2 + count;
+    let to = 2 + (word(words, 1) as usize);
     calls::take_load(p, s, &words[2..to])
 }
 
-// What the first call of a list answers, and the state that it leaves.
-pub fn call(p: Project, s: State, words: &[u32]) -> Outcome
-    ensures { λ r. ⌜ r ≡ outcome p (callOf (now (words .entry))) s ⌝ }
+// What the first call of some words answers, and the state that it leaves; 18 and the same state where they begin with no call.
+pub fn first_call(p: Project, s: State, words: &[u32]) -> Outcome
+    ensures { λ r. ⌜ r ≡ firstCall p (now (words .entry)) s ⌝ }
 {
+    if !call_ok(words) {
+        return Outcome {
+            number: 18,
+            length: 0,
+            truth: false,
+            state: s,
+        };
+    }
     let code = word(words, 0);
     if code == 1 {
         return called(calls::apply_patterns(p, s));

@@ -145,7 +145,7 @@ running {p} {s} {words} k e q = rw q (record {
 })
 
 module _ {p : Project} {r₀ : ListRun} {words : List ℕ} {at : ℕ} {r : ListRun} (g : Running p r₀ words at r) (here : at < length words) where
-  call-whole : callOk (rest words at) ≡ true
+  pub call-whole : callOk (rest words at) ≡ true
   call-whole = both-left _ (listOk 0 (drop (at + callLength (rest words at)) words)) (sym (ok-here words at here) ∙ g .whole)
 
   pub next-within : at + callLength (rest words at) ≤ length words

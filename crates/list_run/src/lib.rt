@@ -3,9 +3,9 @@ ghost use mathlib.Core.Path.{_≡_};
 ghost use mathlib.Core.Bool.{true};
 ghost use Prim.Native.Nat.{_+_, _≤_, _<_, _^_};
 ghost use Rattle.judge.specs.Judgement.{inOrder};
-ghost use Rattle.list_words.specs.Lists.{callOf, callsOf, listOk};
+ghost use Rattle.list_words.specs.Lists.{callOf, callOk, callsOf, listOk};
 ghost use Rattle.list_run.specs.Runs.{noneRun, counted, countedAll, runList, Answers};
-use list_call::call;
+use list_call::first_call;
 use list_words::call_length;
 use list_words::list_ok;
 use list_words::steps_asked;
@@ -36,13 +36,13 @@ fn none_run(number: u32, s: State) -> ListRun
 // The run after the first call of some words.
 fn counted(p: Project, r: ListRun, words: &[u32]) -> ListRun
     requires { ⌜ inOrder p (r .state) ≡ true ⌝ }
-    requires { ⌜ (r .asked + 1 < 2 ^ 64) × (r .answered ≤ r .state .clock .instant) × (r .moves ≤ r .state .clock .count) ⌝ }
+    requires { ⌜ (r .asked + 1 < 2 ^ 64) × (r .answered ≤ r .state .clock .instant) × (r .moves ≤ r .state .clock .count) × (callOk (now words) ≡ true) ⌝ }
     ensures { λ z. ⌜ z ≡ counted p (callOf (now (words .entry))) r ⌝ }
 {
     let number = r.number;
     let before = r.state;
     let asked = r.asked + steps_asked(words);
-    let o = call(p, before, words);
+    let o = first_call(p, before, words);
     let answered = r.answered + o.length;
     let state = o.state;
     if state.clock.instant == before.clock.instant {

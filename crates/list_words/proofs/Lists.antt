@@ -28,6 +28,14 @@ pub ok-whole : (words : List ℕ) → callOk words ≡ true → callLength words
 unfolding callOk
 ok-whole words e = leb-true _ _ (both-right (leb 1 (word words 0) && leb (word words 0) 7) _ e)
 
+-- a load that is not cut has the words that it counts
+load-length : (words : List ℕ) (code : ℕ) → code ≡ word words 0 → code ≡ 3 → callLength words ≡ 2 + word words 1
+unfolding callLength
+load-length words code is e = rw (← is, e)
+
+pub load-whole : (words : List ℕ) (code : ℕ) → code ≡ word words 0 → code ≡ 3 → callOk words ≡ true → 2 + word words 1 ≤ length words
+load-whole words code is e ok = omega (arith, ok-whole words ok, load-length words code is e)
+
 -- ---- the words of a call passed over
 calls-skip : (ws : List ℕ) (n : ℕ) → callsOf n ws ≡ callsOf 0 (drop n ws)
 unfolding callsOf

@@ -2,8 +2,7 @@
 ghost use mathlib.Core.Path.{_≡_};
 ghost use mathlib.Core.Bool.{true};
 ghost use Rattle.clock.specs.Machine.{bit};
-ghost use Rattle.list_words.specs.Calls.{isStep};
-ghost use Rattle.list_words.specs.Lists.{callOf, callLength, callOk, listOk};
+ghost use Rattle.list_words.specs.Lists.{callLength, callOk, asksStep, listOk};
 use image_entry::word;
 
 // How many words the first call has.
@@ -34,30 +33,15 @@ pub fn call_ok(words: &[u32]) -> bool
     call_length(words) <= words.len()
 }
 
-// 1 where the first call is a step, else 0.
+// 1 where the first call is one and asks for a step, else 0.
 pub fn steps_asked(words: &[u32]) -> u64
-    ensures { λ r. ⌜ r ≡ bit (isStep (callOf (now (words .entry)))) ⌝ }
+    ensures { λ r. ⌜ r ≡ bit (asksStep (now (words .entry))) ⌝ }
 {
     let code = word(words, 0);
-    if code == 1 {
-        return 0;
+    if code == 7 {
+        return 1;
     }
-    if code == 2 {
-        return 0;
-    }
-    if code == 3 {
-        return 0;
-    }
-    if code == 4 {
-        return 0;
-    }
-    if code == 5 {
-        return 0;
-    }
-    if code == 6 {
-        return 0;
-    }
-    1
+    0
 }
 
 // Whether every call of a list has a code that there is, and all of its words.

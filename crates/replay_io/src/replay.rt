@@ -1,5 +1,5 @@
 // The run of a list that comes in by a descriptor.
-use image::Decoded;
+use list_words::call_ok;
 use model::*;
 use replay_input::read_bytes;
 use replay_input::read_call;
@@ -22,25 +22,14 @@ fn refuse(to: i32, out: &mut [u8], number: u32) {
     write(to, out, n);
 }
 
-// Runs the call at the start of a table, prints its line, and answers the state after it.
+// Runs a call, prints its line, and answers the state after it.
 fn replay_call(to: i32, p: Project, s: State, call: &[u32], out: &mut [u8]) -> State {
     let code = image_entry::word(call, 0);
-    let o = list_call::call(p, s, call);
+    let o = list_call::first_call(p, s, call);
     let state = o.state;
     let n = put_call_line(out, code, o.number, o.length, o.truth, p.counts, state);
     write(to, out, n);
     state
-}
-
-// Whether a call was read, and its code is one that there is.
-fn is_call(k: usize, code: u32) -> bool {
-    if k < 1 {
-        return false;
-    }
-    if code < 1 {
-        return false;
-    }
-    code <= 7
 }
 
 // The list of n calls, read and run as they come.
@@ -58,11 +47,11 @@ fn replay_calls(
     let mut i = 0;
     while i < n {
         let k = read_call(from, bytes, table);
-        if !is_call(k, image_entry::word(table, 0)) {
+        if !call_ok(&table[..k]) {
             refuse(to, out, BAD_LIST);
             return;
         }
-        state = replay_call(to, p, state, table, out);
+        state = replay_call(to, p, state, &table[..k], out);
         i += 1;
     }
 }
@@ -88,17 +77,10 @@ fn replay_project(
     replay_calls(from, to, p, state, calls, table, bytes, out);
 }
 
-fn decode_image(table: &[u32], n: usize) -> Decoded {
-    if table.len() < n {
-        return image::decode(table);
-    }
-    image::decode(&table[..n])
-}
-
 // Reads an image and a list of calls, and prints the transcript.
 pub fn transcribe(from: i32, to: i32, table: &mut [u32], bytes: &mut [u8], out: &mut [u8]) {
     let n = read_image(from, bytes, table);
-    let read = decode_image(table, n);
+    let read = image::decode(&table[..n]);
     let fault = read.fault;
     let project = read.project;
     if fault != 0 {

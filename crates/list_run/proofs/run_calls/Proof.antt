@@ -7,7 +7,7 @@ use lib.ListN.{length}
 use Rattle.image.proofs.Turns.{rest}
 use Rattle.list_words.specs.Lists.{callsOf}
 use Rattle.list_run.specs.Runs.{countedAll}
-use Rattle.list_run.proofs.Counts.{Running, running, next-within, ran-more, ran-all}
+use Rattle.list_run.proofs.Counts.{Running, running, call-whole, next-within, ran-more, ran-all}
 use Rattle.list_words.proofs.Lists.{length-some}
 use borrow.Author.Needs.{needs}
 use Rattle.list_run.proofs.run_calls.Statement.{statement}
@@ -38,7 +38,7 @@ part-ws-end : tie.Need-part-ws-end Inv-loop μ-loop
 part-ws-end c = search needs
 
 counted-requires : tie.Need-counted-requires Inv-loop μ-loop
-counted-requires c κs = (c .before .before .loop .inv .fits .order, (omega (arith, c .before .before .loop .inv .fits .asks, c .before .loop-test .taken), c .before .before .loop .inv .fits .sum, c .before .before .loop .inv .fits .moving))
+counted-requires c κs = (c .before .before .loop .inv .fits .order, (omega (arith, c .before .before .loop .inv .fits .asks, c .before .loop-test .taken), c .before .before .loop .inv .fits .sum, c .before .before .loop .inv .fits .moving, call-whole (c .before .before .loop .inv) (c .before .loop-test .taken)))
 
 call-length-requires : tie.Need-call-length-requires Inv-loop μ-loop
 call-length-requires c κs = search needs

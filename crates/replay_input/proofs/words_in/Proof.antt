@@ -3,12 +3,14 @@ use mathlib.Core.Path.{sym}
 use native.Mathlib.Omega.{arith}
 use denote.Ref.{now}
 use lib.Seq.{length-take-le}
+use Rattle.words.proofs.Filling.{filled-none}
+use Rattle.replay_input.proofs.Taking.{taken-from}
 use borrow.Author.Needs.{needs}
 use Rattle.replay_input.proofs.words_in.Statement.{statement}
 use Rattle.replay_input.proofs.words_in.Tie as tie
 
 returns : tie.Need-returns
-returns c = search needs
+returns c = record { room = omega arith; words = filled-none _ _ }
 
 mul-size : tie.Need-mul-size
 mul-size c = search needs
@@ -23,7 +25,7 @@ same-length : tie.Need-same-length
 same-length c = search needs
 
 returns-2 : tie.Need-returns-2
-returns-2 c = search needs
+returns-2 c = taken-from (c .before .before .before .before .before .before .before .before .args .n) _ _ _ _ (omega arith) (c .before .before .words-of .ensures .0) (c .before .before .words-of .ensures .1)
 
 pub words-in-spec : {M : Type 1} → statement M
 words-in-spec =
