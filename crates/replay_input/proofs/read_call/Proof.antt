@@ -1,6 +1,5 @@
 -- `replay_input::read_call` meets its contract. Assumes nothing.
-use native.Mathlib.Omega.{arith}
-use Rattle.words.proofs.Filling.{filled-none}
+use Rattle.replay_input.proofs.Taking.{taken-none}
 use borrow.Author.Needs.{needs}
 use Rattle.replay_input.proofs.read_call.Statement.{statement}
 use Rattle.replay_input.proofs.read_call.Tie as tie
@@ -12,7 +11,7 @@ same-length : tie.Need-same-length
 same-length c = search needs
 
 returns : tie.Need-returns
-returns c = record { room = omega arith; words = filled-none _ _ }
+returns c = taken-none _ _
 
 read-operands-requires : tie.Need-read-operands-requires
 read-operands-requires c κs = search needs

@@ -1,6 +1,5 @@
 -- `replay_input::read_image` meets its contract. Assumes nothing.
-use native.Mathlib.Omega.{arith}
-use Rattle.words.proofs.Filling.{filled-none}
+use Rattle.replay_input.proofs.Taking.{taken-none}
 use borrow.Author.Needs.{needs}
 use Rattle.replay_input.proofs.read_image.Statement.{statement}
 use Rattle.replay_input.proofs.read_image.Tie as tie
@@ -12,7 +11,7 @@ same-length : tie.Need-same-length
 same-length c = search needs
 
 returns : tie.Need-returns
-returns c = record { room = omega arith; words = filled-none _ _ }
+returns c = taken-none _ _
 
 word-at-requires : tie.Need-word-at-requires
 word-at-requires c κs = search needs
@@ -21,7 +20,7 @@ same-length-2 : tie.Need-same-length-2
 same-length-2 c = search needs
 
 returns-2 : tie.Need-returns-2
-returns-2 c = record { room = omega arith; words = filled-none _ _ }
+returns-2 c = taken-none _ _
 
 cast-read-bytes : tie.Need-cast-read-bytes
 cast-read-bytes c = search needs
@@ -36,7 +35,7 @@ same-length-3 : tie.Need-same-length-3
 same-length-3 c = search needs
 
 returns-3 : tie.Need-returns-3
-returns-3 c = record { room = omega arith; words = filled-none _ _ }
+returns-3 c = taken-none _ _
 
 cast-words-in : tie.Need-cast-words-in
 cast-words-in c = search needs

@@ -3,14 +3,13 @@ use mathlib.Core.Path.{sym}
 use native.Mathlib.Omega.{arith}
 use denote.Ref.{now}
 use lib.Seq.{length-take-le}
-use Rattle.words.proofs.Filling.{filled-none}
-use Rattle.replay_input.proofs.Taking.{taken-from}
+use Rattle.replay_input.proofs.Taking.{taken-none, taken-from}
 use borrow.Author.Needs.{needs}
 use Rattle.replay_input.proofs.words_in.Statement.{statement}
 use Rattle.replay_input.proofs.words_in.Tie as tie
 
 returns : tie.Need-returns
-returns c = record { room = omega arith; words = filled-none _ _ }
+returns c = taken-none _ _
 
 mul-size : tie.Need-mul-size
 mul-size c = search needs
