@@ -520,7 +520,7 @@ def require_load(project, words):
     header, size = words[0], load_size(project)
     require(header >> 28 == LOAD, 7, f"kind {header >> 28}, a load has kind {LOAD}")
     require(header >> 16 & 0xFFF == 0, 7, f"header {header:#010x}: bits 16 to 27 must be 0")
-    told = f"{len(project.links)} flows and {size // 2 - len(project.links)} heads take {size}"
+    told = f"a load of this image has {size}: flows {len(project.links)}, heads {size // 2 - len(project.links)}"
     require(header & 0xFFFF == size, 7, f"payload of {header & 0xFFFF} words, {told}")
     require(len(words) >= 1 + size, 7, f"the load is cut: {len(words) - 1} of its {size} payload words")
     require(len(words) == 1 + size, 7, f"{len(words) - 1 - size} words are left over behind the load")
