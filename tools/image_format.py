@@ -383,7 +383,7 @@ class Cases:
     def read(self, tokens, names):
         (code,) = self.code.read(tokens, names)
         if code >= len(self.cases):
-            raise TextError(f"{code} is no {self.code.what}", f"0 to {len(self.cases) - 1}, or a raw line for the record")
+            raise TextError(f"{code} is no {self.code.what}", f"0 to {len(self.cases) - 1}, or a raw line")
         return [code] + read_parts(self.cases[code], tokens, names)
 
     def show(self, words, names):

@@ -2,6 +2,7 @@
 import contextlib
 import pathlib
 import random
+import re
 import struct
 import subprocess
 import sys
@@ -235,26 +236,26 @@ class Errors(unittest.TestCase):
         ("# a comment\n\npump elevation=1", 3, "start= is missing; expected pump [NAME] start="),
         ("tub T elevation=1", 1, "tub is no record; expected one of options pattern"),
         (NETWORK + "pipe P start=R end=T diameter=1", 11, "there is a link P already; expected another name"),
-        (NETWORK + "pipe Q start=X end=T diameter=1", 11, "start=X is no node of this image; expected the name of a node or"),
+        (NETWORK + "pipe Q start=X end=T diameter=1", 11, "start=X is no node of this image; expected the name of a"),
         (NETWORK + "pipe Q start=2x end=T diameter=1", 11, "start=2x is no node of this image; expected the name of a"),
-        (NETWORK + "pipe Q start=R end=T diameter=1 colour=red", 11, f"colour=red does not belong here; expected {PIPE}"),
+        (NETWORK + "pipe Q start=R end=T diameter=1 hue=red", 11, f"hue=red does not belong here; expected {PIPE}"),
         (NETWORK + "pipe Q start=R end=T diameter=1 diameter=2", 11, f"diameter= stands there twice; expected {PIPE}"),
         (NETWORK + "pipe Q start=R end=T diameter=1,5", 11, f"diameter=1,5 is no number; {NUMBER_EXPECTED}"),
         (NETWORK + "pipe Q start=R end=T diameter=", 11, f"diameter= is no number; {NUMBER_EXPECTED}"),
         (NETWORK + "pipe Q start=R end=T diameter=1e999", 11, "diameter=1e999 is beyond every f64; expected inf"),
-        (NETWORK + "pipe Q start=R end=T status=open diameter=1", 11, "status=open is no status; expected Xhead, TempClosed"),
+        (NETWORK + "pipe Q start=R end=T status=open diameter=1", 11, "status=open is no status; expected Xhead, Temp"),
         (NETWORK + "control level node=T target=1 link=P", 11, "level is no condition; expected high_pressure, low"),
         (NETWORK + "control 6 node=T target=1 link=P", 11, "6 is no condition; expected 0 to 5, or a raw line"),
         (NETWORK + "control", 11, "condition is missing; expected control CONDITION .. link= [status=] [setting=]"),
-        (NETWORK + "premise and tank.level > number 10.0", 11, "> is no node of this image; expected the name of a node"),
-        (NETWORK + "premise and tank.level T = nought 1", 11, "nought is no value's sort; expected number, status or time"),
-        (NETWORK + "junction L elevation=1 pattern=DAY demand=1", 11, "pattern=DAY does not belong here; expected junction"),
-        (NETWORK + "junction L elevation=1 demand=1 pattern=DUSK", 11, "pattern=DUSK is no pattern of this image; expected"),
+        (NETWORK + "premise and tank.level > number 10.0", 11, "> is no node of this image; expected the name of a"),
+        (NETWORK + "premise and tank.level T = nought 1", 11, "nought is no value's sort; expected number, status"),
+        (NETWORK + "junction L elevation=1 pattern=DAY demand=1", 11, "pattern=DAY does not belong here; expected"),
+        (NETWORK + "junction L elevation=1 demand=1 pattern=DUSK", 11, "pattern=DUSK is no pattern of this image;"),
         (NETWORK + "junction L elevation=1 flags=off", 11, "flags=off has an unknown flag; expected none or disabled"),
-        (OPTIONS.format(1) + " flags=skip+off", 1, "flags=skip+off has an unknown flag; expected none, skip or PDA (several"),
+        (OPTIONS.format(1) + " flags=skip+off", 1, "flags=skip+off has an unknown flag; expected none, skip or PDA ("),
         (NETWORK + "pattern", 11, "multiplier is missing; expected pattern [NAME] MULTIPLIER .."),
         (OPTIONS.format("1:5"), 1, f"duration=1:5 is no time; {TIME_EXPECTED}"),
-        (OPTIONS.format(4294967296), 1, "duration=4294967296 does not fit a word of 32 bits; expected at most 4294967295"),
+        (OPTIONS.format(4294967296), 1, "duration=4294967296 does not fit a word of 32 bits; expected at most 42949"),
         ("raw", 1, "the kind is missing; expected raw KIND WORD .."),
         ("raw 16 0", 1, "kind 16 does not fit the 4 bits of a header; expected 0 to 15"),
         ("raw 2 4294967296", 1, "4294967296 does not fit a word"),
@@ -306,7 +307,8 @@ class Errors(unittest.TestCase):
             self.check(f"tank {name} {fields}", 1, f"{name} is no name; {NAME_EXPECTED}")
         self.check("pattern Tag/Nacht 1.0", 1, f"Tag/Nacht is no name; {NAME_EXPECTED}")
         for name in ("none", "nan", "inf"):
-            self.check(f"tank {name} {fields}", 1, f"{name} is no name; expected another: none, nan or inf means something")
+            message = f"{name} is no name; expected another: none, nan or inf means something else"
+            self.check(f"tank {name} {fields}", 1, message)
         for name in ("T", "_", "t.1-a_B", "elevation"):
             self.assertEqual(len(words_of(f"tank {name} {fields}")), 12, name)
 
@@ -393,7 +395,8 @@ class Command(RunsTheTool):
 
     def test_a_closed_pipe(self):
         image = TOOL.parent.parent / "stock" / "thornmoor.image"
-        with subprocess.Popen([sys.executable, TOOL, "show", image], stdout=subprocess.PIPE, stderr=subprocess.PIPE) as tool:
+        pipes = {"stdout": subprocess.PIPE, "stderr": subprocess.PIPE}
+        with subprocess.Popen([sys.executable, TOOL, "show", image], **pipes) as tool:
             tool.stdout.readline()
             tool.stdout.close()
             self.assertEqual(tool.stderr.read(), b"")
@@ -428,7 +431,10 @@ class Checking(RunsTheTool):
     def test_a_load_is_refused(self):
         wrong = [
             ("load flow 1 nan head 3 4", "refused 8: load 3, words 3 and 4: flow nan of pump {} is not within ±10^12"),
-            ("load flow 1 2 head 3", "refused 7: load 3: payload of 6 words, a load of this image has 8: flows 2, heads 2"),
+            (
+                "load flow 1 2 head 3",
+                "refused 7: load 3: payload of 6 words, a load of this image has 8: flows 2, heads 2",
+            ),
             ("raw 3", "refused 7: load 3: kind 3, a load has kind 15"),
             ("bytes 0f", "refused 7: load 3: the load is cut: 1 of the header's 4 bytes"),
         ]
@@ -438,11 +444,12 @@ class Checking(RunsTheTool):
 
     def test_the_default_pattern_is_named_on_the_line_of_the_options(self):
         text = NETWORK.replace("default_pattern=NIGHT", "default_pattern=7")
-        fault = "refused 6: record 1, options, word 8: default pattern word 8 means index 7: only 2 patterns are declared\n"
-        self.check_text(text, 1, f"-:2: {fault}")
+        fault = "refused 6: record 1, options, word 8: default pattern word 8 means index 7"
+        self.check_text(text, 1, f"-:2: {fault}: only 2 patterns are declared\n")
 
     def test_what_is_no_image(self):
-        self.check(self.run_tool("check", "-", given=b""), 1, "-: refused 1: 0 bytes, and the count of words alone takes 4\n")
+        empty = self.run_tool("check", "-", given=b"")
+        self.check(empty, 1, "-: refused 1: 0 bytes, and the count of words alone takes 4\n")
         self.check_text("# nothing\n", 1, "-: refused 1: no words, and an image has at least one\n")
         done = self.run_tool("check", "-", given=b"tub\n")
         self.assertEqual((done.returncode, done.stdout), (2, b""))
@@ -456,6 +463,34 @@ class Checking(RunsTheTool):
             told = last if last.startswith("refused") else "accepted"
             self.assertIn(f"{name}.image: {told}:", done.stdout.decode())
             self.assertEqual(done.returncode, told != "accepted")
+
+
+class Readme(unittest.TestCase):
+    """What tools/README.md shows is what happens."""
+
+    TEXT = (TOOL.parent / "README.md").read_text(encoding="utf-8")
+
+    def blocks(self, language):
+        return re.findall(rf"^```{language}\n(.*?)^```$", self.TEXT, re.DOTALL | re.MULTILINE)
+
+    def test_the_commands_print_what_stands_below_them(self):
+        (block,) = self.blocks("console")
+        for shown in block.removeprefix("$ ").split("\n$ "):
+            command, _, expected = shown.partition("\n")
+            done = subprocess.run(["sh", "-c", command], cwd=TOOL.parent.parent, capture_output=True, check=False)
+            self.assertEqual((done.stdout.decode().rstrip("\n"), done.stderr), (expected.rstrip("\n"), b""), command)
+
+    def test_the_pieces_of_text_make_an_accepted_works(self):
+        text = "".join(self.blocks("text"))
+        decoded = image_decode.decode_input(image_text.assemble(text).data(counted=True))
+        self.assertIsNone(decoded.fault)
+        self.assertEqual((len(decoded.premises), decoded.loads), (3, 2))
+
+    def test_every_record_and_field_is_listed(self):
+        for form in FORMS:
+            (row,) = re.findall(rf"^\| `{form.keyword}(?:| NAME| high_pressure)` \|(.*)\|$", self.TEXT, re.MULTILINE)
+            for key in re.findall(r"(\w+)=", form.usage()):
+                self.assertIn(f"`{key}`", row, form.keyword)
 
 
 class NewKinds(unittest.TestCase):

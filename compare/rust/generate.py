@@ -664,7 +664,7 @@ def main():
     for kind in CASES:
         kinds.add_argument(f"--{kind}", metavar="NUMBER" if kind == "sweep" else "SEED", type=int)
     parser.add_argument("--out", metavar="FILE", help="write there instead of to standard output")
-    parser.add_argument("--text", action="store_true", help="write the text of tools/image; the calls of a replay are comments")
+    parser.add_argument("--text", action="store_true", help="write the text of tools/image, a replay's calls as comments")
     arguments = parser.parse_args()
     kind = next(kind for kind in CASES if getattr(arguments, kind) is not None)
     case = CASES[kind](getattr(arguments, kind))
