@@ -173,7 +173,7 @@ class Code:
             return [self.names.index(text)]
         if WORD.fullmatch(text):
             return [word_of(text)]
-        raise TextError(f"{text} is no {self.what}", listed(self.names) + self.then)
+        raise TextError(f"{text} is no {self.what}", f"one of {', '.join(self.names)}{self.then}")
 
     def show(self, words, names):
         (code,) = words

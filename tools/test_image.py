@@ -243,12 +243,13 @@ class Errors(unittest.TestCase):
         (NETWORK + "pipe Q start=R end=T diameter=1,5", 11, f"diameter=1,5 is no number; {NUMBER_EXPECTED}"),
         (NETWORK + "pipe Q start=R end=T diameter=", 11, f"diameter= is no number; {NUMBER_EXPECTED}"),
         (NETWORK + "pipe Q start=R end=T diameter=1e999", 11, "diameter=1e999 is beyond every f64; expected inf"),
-        (NETWORK + "pipe Q start=R end=T status=open diameter=1", 11, "status=open is no status; expected Xhead, Temp"),
-        (NETWORK + "control level node=T target=1 link=P", 11, "level is no condition; expected high_pressure, low"),
+        (NETWORK + "pipe Q start=R end=T status=open diameter=1", 11, "status=open is no status; expected one of Xhead"),
+        (NETWORK + "control level node=T target=1 link=P", 11, "level is no condition; expected one of high_pressure,"),
         (NETWORK + "control 6 node=T target=1 link=P", 11, "6 is no condition; expected 0 to 5, or a raw line"),
         (NETWORK + "control", 11, "condition is missing; expected control CONDITION .. link= [status=] [setting=]"),
         (NETWORK + "premise and tank.level > number 10.0", 11, "> is no node of this image; expected the name of a"),
-        (NETWORK + "premise and tank.level T = nought 1", 11, "nought is no value's sort; expected number, status"),
+        (NETWORK + "premise and tank.level T = nought 1", 11, "nought is no value's sort; expected one of number"),
+        (NETWORK + "premise tank.level T > number 1", 11, "tank.level is no operator; expected one of or, and"),
         (NETWORK + "junction L elevation=1 pattern=DAY demand=1", 11, "pattern=DAY does not belong here; expected"),
         (NETWORK + "junction L elevation=1 demand=1 pattern=DUSK", 11, "pattern=DUSK is no pattern of this image;"),
         (NETWORK + "junction L elevation=1 flags=off", 11, "flags=off has an unknown flag; expected none or disabled"),
@@ -289,7 +290,7 @@ class Errors(unittest.TestCase):
             self.check(text, line, message)
 
     def test_a_premise_without_the_sort_of_its_value(self):
-        message = "10.0 is no value's sort; expected number, status or time, then the value, as in `number 10.0`"
+        message = "10.0 is no value's sort; expected one of number, status, time, then the value, as in `number 10.0`"
         self.check(NETWORK + "premise and tank.level T >= 10.0", 11, message)
 
     def test_times(self):
