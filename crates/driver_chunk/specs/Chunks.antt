@@ -1,5 +1,4 @@
--- What the functions of the crate promise of a run of turns.
--- Assumes nothing.
+-- Needs no belief: what the functions of the crate promise of a run of turns; `image-accepted` shows that chunks join up to all that is printed.
 use Prim.Native.Nat.{ℕ, _-_, _≤_, _<_}
 use mathlib.Core.Path.{_≡_}
 use mathlib.Core.Bool.{Bool, true, false, cond}

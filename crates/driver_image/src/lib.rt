@@ -1,6 +1,6 @@
 // What the driver's input begins with: the count of the image's words, and the image.
 ghost use mathlib.Core.Path.{_≡_};
-ghost use Prim.Native.Nat.{_/_, min, _≤_};
+ghost use Prim.Native.Nat.{_/_, _≤_};
 ghost use lib.ListN.{length};
 ghost use Rattle.image.specs.Image.{decode};
 ghost use Rattle.words.specs.Words.{firstWords};
@@ -22,16 +22,16 @@ pub fn image_words(head: &[u8]) -> usize
     n as usize
 }
 
-// Room for the words of an image.
-fn image_space() -> [u32; 16384]
-    ensures { λ r. ⌜ 16384 ≡ length r ⌝ }
+// Room for the words of an image, and for one more, by which a longer one is refused.
+fn image_space() -> [u32; 16385]
+    ensures { λ r. ⌜ 16385 ≡ length r ⌝ }
 {
-    [0; 16384]
+    [0; 16385]
 }
 
-// The tables of an image, or the number of its fault. Words past the 16,384th are not looked at.
+// The tables of an image, or the number of its fault. Bytes behind the last whole word are not looked at.
 pub fn open(bytes: &[u8]) -> Decoded
-    ensures { λ r. ⌜ r ≡ decode (firstWords (min (length (now (bytes .entry)) / 4) 16384) (now (bytes .entry))) ⌝ }
+    ensures { λ r. ⌜ r ≡ decode (firstWords (length (now (bytes .entry)) / 4) (now (bytes .entry))) ⌝ }
 {
     let mut words = image_space();
     let n = words::words_of(bytes, &mut words);

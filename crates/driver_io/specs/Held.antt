@@ -1,5 +1,4 @@
--- The input at hand in the driver's buffer.
--- Assumes nothing.
+-- Needs no belief: the input at hand in the driver's buffer.
 use Prim.Native.Nat.{ℕ, _-_, _≤_}
 use mathlib.Core.Path.{_≡_}
 use mathlib.Core.Bool.{true}

@@ -1,5 +1,4 @@
--- What the functions of the crate promise of a turn.
--- Assumes nothing.
+-- Needs no belief: what the functions of the crate promise of a turn, put into a buffer.
 use Prim.Native.Nat.{ℕ, _+_, _≤_}
 use mathlib.Core.Path.{_≡_}
 use mathlib.Core.List.{List}

@@ -1,4 +1,4 @@
--- What the judgement of a state means, as facts: the same bounds as in its tests, both ways (proofs/Fits.antt).
+-- Needs no belief: what the judgement of a state means, as facts; the same bounds as in its tests, both ways (proofs/Fits.antt).
 use Prim.Native.Nat.{ℕ, _^_, _≤_, _<_}
 use Rattle.number.specs.Bounds.{Within}
 use Rattle.model.specs.Blank.{nodeStateAt, linkStateAt}

@@ -1,4 +1,5 @@
--- The passes of the code: heads over the nodes, and net inflows in one pass over the links. `take-load-is` shows that they come to `takeLoad`.
+-- Needs no belief: the passes of the code, heads over the nodes, and net inflows in one pass over the links. `take-load-is` shows that they come to
+-- `takeLoad`.
 use Prim.Native.Nat.{ℕ}
 use mathlib.Core.List.{List}
 use lib.Ieee.{Float}

@@ -1,4 +1,4 @@
--- The passes of the code over the links. `update-tank-links-is` shows that they come to `updateTankLinks`.
+-- Needs no belief: the passes of the code over the links. `update-tank-links-is` shows that they come to `updateTankLinks`.
 use Prim.Native.Nat.{ℕ}
 use Rattle.model.specs.Blank.{nodeAt, linkAt, nodeStateAt, linkStateAt, withNode}
 use Rattle.model.specs.Loops.{through}

@@ -14,7 +14,8 @@ use Rattle.model.specs.declared.pattern.PatternIndex.{PatternIndex}
 use Rattle.model.specs.declared.pattern.PatternIndex.the-variants.{NoPattern, PatternAt}
 use Rattle.model.specs.declared.project.Project.{Project}
 use Rattle.model.proofs.Each.{below}
-use Rattle.state.specs.Patterns.{multiplierOf, tableOf}
+use Rattle.state.specs.Patterns.{multiplierOf}
+use Rattle.state.specs.Table.{tableOf}
 use Rattle.state_patterns.specs.Patterns.{tabled}
 
 module _ (p : Project) (t : ℕ) where

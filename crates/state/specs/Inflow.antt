@@ -1,4 +1,4 @@
--- A tank's demand, summed up from its links' flows: what a load and closing share.
+-- Needs no belief: a pass of the code that load and closing share, behind their definitions tank by tank.
 use Prim.Native.Nat.{ℕ}
 use Rattle.model.specs.Blank.{nodeAt, nodeStateAt, withNode}
 use Rattle.model.specs.Loops.{through}

@@ -1,10 +1,8 @@
 -- Document 01, module 7: `apply_patterns`.
 use Prim.Native.Nat.{ℕ}
 use mathlib.Core.Bool.{cond}
-use mathlib.Core.List.{List}
 use lib.Dec.{ltb}
 use lib.Ieee.{Float}
-use lib.ListN.{set, replicate}
 use Rattle.number.specs.Constants.{decimal}
 use Rattle.model.specs.Blank.{nodeAt, nodeStateAt, withNode}
 use Rattle.model.specs.Loops.{through}
@@ -27,10 +25,3 @@ unfoldable pub applyPatterns : Project → State → State
 applyPatterns p s =
     let o = p .options in
     through (p .counts .nodes) (nodePatterned p (multiplierOf p (period (o .«pattern_start») (o .pattern) (s .clock .instant)))) s
-
--- ---- the multipliers of a period, worked out beforehand
-abbrev pub entered : Project → ℕ → ℕ → List Float → List Float
-entered p t k table = set table k (multiplierAt (patternAt p k) t)
-
-unfoldable pub tableOf : Project → ℕ → List Float
-tableOf p t = through 32 (entered p t) (replicate 32 (decimal 1 0))

@@ -1,4 +1,5 @@
--- What acceptance means, as facts for the layers above: indices below the counts, times in their ranges, numbers as bounds.
+-- Needs no belief: what acceptance means, as facts for the layers above, shown of the tests once (proofs/Fits.antt): indices below the counts, times in
+-- their ranges, numbers as bounds.
 use Prim.Native.Nat.{ℕ, _*_, _+_, _^_, _≤_, _<_}
 use mathlib.Core.Path.{_≡_}
 use mathlib.Core.List.{List}

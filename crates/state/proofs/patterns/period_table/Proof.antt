@@ -7,7 +7,7 @@ use native.Mathlib.Omega.{arith}
 use Rattle.model.proofs.Loops.{Ran, begun, turned, ended}
 use Rattle.model.specs.Patterns.{period, patternAt}
 use Rattle.pattern_view.specs.View.{multiplierInForce}
-use Rattle.state.specs.Patterns.{entered, tableOf}
+use Rattle.state.specs.Table.{entered, tableOf}
 use borrow.Author.Needs.{needs}
 use Rattle.state.proofs.patterns.period_table.Statement.{statement}
 use Rattle.state.proofs.patterns.period_table.Tie as tie
