@@ -18,7 +18,7 @@ pub struct Times {
 
 impl Times {
     // From the tanks' candidate, the smallest of all of them, and the controls', the smallest that is not 0.
-    pub fn calculate_time_step(self, tanks: u64, controls: u64, time: u32) -> u64
+    fn calculate_time_step(self, tanks: u64, controls: u64, time: u32) -> u64
         ensures { λ r. ⌜ r ≡ calculateTimeStep self tanks controls time ⌝ }
     {
         let report = self.report;

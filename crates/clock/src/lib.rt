@@ -8,6 +8,5 @@ pub use candidates::clock_candidate;
 pub use candidates::clock_time;
 pub use candidates::smaller_positive;
 pub use candidates::time_candidate;
-pub use candidates::time_to_next;
 pub use hand::Clock;
 pub use length::Times;

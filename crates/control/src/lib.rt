@@ -104,7 +104,7 @@ pub fn activate(control: Control, link: Link, state: LinkState) -> Activated
 }
 
 // The seconds until a tank is at a target level; MAX where the node is no tank.
-pub fn level_time(node: Node, state: NodeState, target: f64) -> u64
+fn level_time(node: Node, state: NodeState, target: f64) -> u64
     ensures { λ r. ⌜ r ≡ levelTime (node .kind) state target ⌝ }
 {
     let kind = node.kind;

@@ -4,6 +4,8 @@ use Rattle.model.specs.declared.project.Project.{Project}
 use Rattle.model.specs.declared.state.State.{State}
 use Rattle.calls.specs.Calls as calls
 use Rattle.calls.specs.declared.Called.{Called}
+use Rattle.calls.specs.declared.PressureCalled.{PressureCalled}
+use Rattle.calls.specs.declared.StepCalled.{StepCalled}
 use Rattle.calls.specs.declared.PremiseAnswer.{PremiseAnswer}
 use Rattle.calls.specs.declared.PremiseAnswer.the-variants.{Truth, Refused}
 use Rattle.list_words.specs.Calls.{Call, patterns, controls, load, tankLinks, pressure, premise, step}
@@ -18,12 +20,19 @@ abbrev pub asked : PremiseAnswer → State → Outcome
 asked (Truth b) s = record { number = 0; length = 0; truth = b; state = s }
 asked (Refused n) s = record { number = n; length = 0; truth = false; state = s }
 
+-- whether the pressure pass changed anything; a step's length
+abbrev pub pressed : PressureCalled → Outcome
+pressed c = record { number = c .number; length = 0; truth = c .changed; state = c .state }
+
+abbrev pub stepped : StepCalled → Outcome
+stepped c = record { number = c .number; length = c .length; truth = false; state = c .state }
+
 -- what the public calls answer. `length` is a step's, `truth` a premise's, or whether the pressure pass changed anything.
 unfoldable pub outcome : Project → Call → State → Outcome
 outcome p patterns s = called (calls.patterns p s)
 outcome p controls s = called (calls.controls p s)
 outcome p (load words) s = called (calls.load p words s)
 outcome p tankLinks s = called (calls.tankLinks p s)
-outcome p pressure s = let c = calls.pressure p s in record { number = c .number; length = 0; truth = c .changed; state = c .state }
+outcome p pressure s = pressed (calls.pressure p s)
 outcome p (premise i) s = asked (calls.premise p i s) s
-outcome p step s = let c = calls.step p s in record { number = c .number; length = c .length; truth = false; state = c .state }
+outcome p step s = stepped (calls.step p s)

@@ -4,10 +4,12 @@ ghost use Prim.Native.Nat.{_+_, _≤_};
 ghost use lib.ListN.{length, take, drop};
 ghost use Rattle.image_entry.specs.Words.{word as wordOf};
 ghost use Rattle.calls.specs.Calls.{load};
-ghost use Rattle.demand3.specs.Calls.{called, asked};
+ghost use Rattle.demand3.specs.Calls.{called, pressed, stepped, asked};
 ghost use Rattle.list_call.specs.FirstCall.{firstCall};
 use calls::Called;
 use calls::PremiseAnswer;
+use calls::PressureCalled;
+use calls::StepCalled;
 use demand3::Outcome;
 use image_entry::word;
 use list_words::call_ok;
@@ -20,6 +22,30 @@ fn called(c: Called) -> Outcome
     Outcome {
         number: c.number,
         length: 0,
+        truth: false,
+        state: state,
+    }
+}
+
+fn pressed(c: PressureCalled) -> Outcome
+    ensures { λ r. ⌜ r ≡ pressed c ⌝ }
+{
+    let state = c.state;
+    Outcome {
+        number: c.number,
+        length: 0,
+        truth: c.changed,
+        state: state,
+    }
+}
+
+fn stepped(c: StepCalled) -> Outcome
+    ensures { λ r. ⌜ r ≡ stepped c ⌝ }
+{
+    let state = c.state;
+    Outcome {
+        number: c.number,
+        length: c.length,
         truth: false,
         state: state,
     }
@@ -79,25 +105,11 @@ pub fn first_call(p: Project, s: State, words: &[u32]) -> Outcome
         return called(calls::update_tank_links(p, s));
     }
     if code == 5 {
-        let done = calls::apply_pressure_controls(p, s);
-        let state = done.state;
-        return Outcome {
-            number: done.number,
-            length: 0,
-            truth: done.changed,
-            state: state,
-        };
+        return pressed(calls::apply_pressure_controls(p, s));
     }
     if code == 6 {
         let i = word(words, 1) as usize;
         return asked(calls::premise_truth(p, s, i), s);
     }
-    let done = calls::next_hydraulic_timestep(p, s);
-    let state = done.state;
-    Outcome {
-        number: done.number,
-        length: done.length,
-        truth: false,
-        state: state,
-    }
+    stepped(calls::next_hydraulic_timestep(p, s))
 }

@@ -8,7 +8,7 @@ use denote.Ref.{now}
 use Rattle.list_words.proofs.Codes.{code-1, code-2, code-3, code-4, code-5, code-6, code-7}
 use Rattle.list_words.proofs.Lists.{load-whole}
 use Rattle.list_words.specs.Lists.{callOf, callOk}
-use Rattle.demand3.specs.Calls.{called, outcome}
+use Rattle.demand3.specs.Calls.{called, pressed, stepped, outcome}
 use Rattle.demand3.specs.declared.Outcome.{Outcome}
 use Rattle.model.specs.declared.project.Project.{Project}
 use Rattle.model.specs.declared.state.State.{State}
@@ -74,9 +74,12 @@ returns-5 c = made (c .before .before .before .before .before .before .before .b
 apply-pressure-controls-requires : tie.Need-apply-pressure-controls-requires
 apply-pressure-controls-requires c κs = search needs
 
+pressed-requires : tie.Need-pressed-requires
+pressed-requires c κs = search needs
+
 returns-6 : tie.Need-returns-6
 unfolding outcome
-returns-6 c = made (c .before .before .before .before .before .before .before .before .before .before .before .args .p) (now (c .before .before .before .before .before .before .before .before .before .before .before .args .words)) (c .before .before .before .before .before .before .before .before .before .before .before .args .s) (sym (c .before .before .before .before .before .before .before .before .before .call-ok .ensures) ∙ not-false (c .before .before .before .before .before .before .before .before .before .call-ok .result) (c .before .before .before .before .before .before .before .before .if1 .left)) (rw ((code-5 (now (c .before .before .before .before .before .before .before .before .before .before .before .args .words)) _ (c .before .before .before .before .before .before .before .word .ensures) (c .before .before .if6 .taken)), c .before .apply-pressure-controls .ensures))
+returns-6 c = made (c .before .before .before .before .before .before .before .before .before .before .before .args .p) (now (c .before .before .before .before .before .before .before .before .before .before .before .args .words)) (c .before .before .before .before .before .before .before .before .before .before .before .args .s) (sym (c .before .before .before .before .before .before .before .before .before .call-ok .ensures) ∙ not-false (c .before .before .before .before .before .before .before .before .before .call-ok .result) (c .before .before .before .before .before .before .before .before .if1 .left)) (c .pressed .ensures ∙ (ap pressed (c .before .apply-pressure-controls .ensures) ∙ sym (ap (λ k. outcome (c .before .before .before .before .before .before .before .before .before .before .before .args .p) k (c .before .before .before .before .before .before .before .before .before .before .before .args .s)) (code-5 (now (c .before .before .before .before .before .before .before .before .before .before .before .args .words)) _ (c .before .before .before .before .before .before .before .word .ensures) (c .before .before .if6 .taken)))))
 
 word-requires-2 : tie.Need-word-requires-2
 word-requires-2 c κs = search needs
@@ -97,9 +100,12 @@ returns-7 c = made (c .before .before .before .before .before .before .before .b
 next-hydraulic-timestep-requires : tie.Need-next-hydraulic-timestep-requires
 next-hydraulic-timestep-requires c κs = search needs
 
+stepped-requires : tie.Need-stepped-requires
+stepped-requires c κs = search needs
+
 returns-8 : tie.Need-returns-8
 unfolding outcome
-returns-8 c = made (c .before .before .before .before .before .before .before .before .before .before .before .before .args .p) (now (c .before .before .before .before .before .before .before .before .before .before .before .before .args .words)) (c .before .before .before .before .before .before .before .before .before .before .before .before .args .s) (sym (c .before .before .before .before .before .before .before .before .before .before .call-ok .ensures) ∙ not-false (c .before .before .before .before .before .before .before .before .before .before .call-ok .result) (c .before .before .before .before .before .before .before .before .before .if1 .left)) (rw ((code-7 (now (c .before .before .before .before .before .before .before .before .before .before .before .before .args .words)) _ (c .before .before .before .before .before .before .before .before .word .ensures) (c .before .before .before .before .before .before .before .if2 .left) (c .before .before .before .before .before .before .if3 .left) (c .before .before .before .before .before .if4 .left) (c .before .before .before .before .if5 .left) (c .before .before .before .if6 .left) (c .before .before .if7 .left)), c .before .next-hydraulic-timestep .ensures))
+returns-8 c = made (c .before .before .before .before .before .before .before .before .before .before .before .before .args .p) (now (c .before .before .before .before .before .before .before .before .before .before .before .before .args .words)) (c .before .before .before .before .before .before .before .before .before .before .before .before .args .s) (sym (c .before .before .before .before .before .before .before .before .before .before .call-ok .ensures) ∙ not-false (c .before .before .before .before .before .before .before .before .before .before .call-ok .result) (c .before .before .before .before .before .before .before .before .before .if1 .left)) (c .stepped .ensures ∙ (ap stepped (c .before .next-hydraulic-timestep .ensures) ∙ sym (ap (λ k. outcome (c .before .before .before .before .before .before .before .before .before .before .before .before .args .p) k (c .before .before .before .before .before .before .before .before .before .before .before .before .args .s)) (code-7 (now (c .before .before .before .before .before .before .before .before .before .before .before .before .args .words)) _ (c .before .before .before .before .before .before .before .before .word .ensures) (c .before .before .before .before .before .before .before .if2 .left) (c .before .before .before .before .before .before .if3 .left) (c .before .before .before .before .before .if4 .left) (c .before .before .before .before .if5 .left) (c .before .before .before .if6 .left) (c .before .before .if7 .left)))))
 
 pub first-call-spec : {M : Type 1} → statement M
 first-call-spec =
@@ -121,6 +127,7 @@ first-call-spec =
     called-requires-4
     returns-5
     apply-pressure-controls-requires
+    pressed-requires
     returns-6
     word-requires-2
     cast-i
@@ -128,4 +135,5 @@ first-call-spec =
     asked-requires
     returns-7
     next-hydraulic-timestep-requires
+    stepped-requires
     returns-8)
