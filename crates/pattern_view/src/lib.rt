@@ -23,11 +23,7 @@ struct PatternView<'a> {
     pattern_timestep: u32,
 }
 
-fn view<'a>(
-    multipliers: &'a [f64],
-    pattern_start: u32,
-    pattern_timestep: u32,
-) -> PatternView<'a>
+fn view<'a>(multipliers: &'a [f64], pattern_start: u32, pattern_timestep: u32) -> PatternView<'a>
     ensures { λ r. ⌜ (r .multipliers ≡ multipliers .entry) × (r .«pattern_start» ≡ «pattern_start») × (r .«pattern_timestep» ≡ «pattern_timestep») ⌝ }
 {
     PatternView {
