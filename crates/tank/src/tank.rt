@@ -36,7 +36,7 @@ pub fn gap_time(gap: CubicFeet, flow: CubicFeetPerSecond) -> u64
 }
 
 impl Tank {
-    pub fn volume_at_level(self, level: Feet) -> CubicFeet
+    fn volume_at_level(self, level: Feet) -> CubicFeet
         ensures { λ r. ⌜ r ≡ volumeAtLevel self level ⌝ }
     {
         let height = level.0;
@@ -80,7 +80,7 @@ impl Tank {
     }
 
     // The head after a change of volume.
-    pub fn new_head(self, change: CubicFeet, head: Feet) -> Feet
+    fn new_head(self, change: CubicFeet, head: Feet) -> Feet
         ensures { λ r. ⌜ r ≡ newHead self change head ⌝ }
     {
         let elevation = self.elevation.0;
