@@ -17,13 +17,17 @@ fn multiplier_by_instant(
 }
 
 // The multipliers of one pattern, lent, with the times by which a period is found.
-struct PatternView<'a> {
+pub struct PatternView<'a> {
+    pub multipliers: &'a [f64],
+    pub pattern_start: u32,
+    pub pattern_timestep: u32,
+}
+
+pub fn view<'a>(
     multipliers: &'a [f64],
     pattern_start: u32,
     pattern_timestep: u32,
-}
-
-fn view<'a>(multipliers: &'a [f64], pattern_start: u32, pattern_timestep: u32) -> PatternView<'a>
+) -> PatternView<'a>
     ensures { λ r. ⌜ (r .multipliers ≡ multipliers .entry) × (r .«pattern_start» ≡ «pattern_start») × (r .«pattern_timestep» ≡ «pattern_timestep») ⌝ }
 {
     PatternView {
@@ -34,7 +38,7 @@ fn view<'a>(multipliers: &'a [f64], pattern_start: u32, pattern_timestep: u32) -
 }
 
 // The view is taken apart, and the function on the slice and the numbers is asked.
-fn multiplier<'a>(v: PatternView<'a>, time: u32) -> f64
+pub fn multiplier<'a>(v: PatternView<'a>, time: u32) -> f64
     ensures { λ r. ⌜ r ≡ multiplierInForce (now (v .entry .multipliers)) (v .entry .«pattern_start») (v .entry .«pattern_timestep») time ⌝ }
 {
     multiplier_by_instant(v.multipliers, v.pattern_start, v.pattern_timestep, time)
