@@ -4,7 +4,7 @@
   images.py write DIR      writes case000, case001, .. (the count of words, then the words, little-endian)
                            and `expected`, a line a row: the number, the row's name
   images.py list           prints the rows: the number, the name, the sentence of document 01
-  images.py check          compares each number with what reference.py answers
+  images.py check          compares each number with what tools/image_decode.py answers
   images.py quotes PAPER   checks that each sentence stands in the paper, word for word
 
 A row's number is written here by hand, from the paper; no decoder had a part in it. Each image is the
@@ -16,6 +16,9 @@ import math
 import pathlib
 import struct
 import sys
+
+sys.path.insert(0, str(pathlib.Path(__file__).resolve().parent.parent / "tools"))
+import image_decode  # noqa: E402
 
 Row = collections.namedtuple("Row", "number name sentence words")
 
@@ -933,14 +936,12 @@ def list_rows():
 
 
 def check():
-    """Answers how many rows the reference judges otherwise."""
-    import reference
-
+    """Answers how many rows the decoder judges otherwise."""
     batch = rows()
-    differing = [(row, reference.number_of_image(row.words)) for row in batch]
+    differing = [(row, image_decode.decode(row.words).number) for row in batch]
     differing = [(row, answer) for row, answer in differing if row.number != answer]
     for row, answer in differing:
-        print(f"{row.name}: {row.number} here, {answer} by the reference")
+        print(f"{row.name}: {row.number} here, {answer} by tools/image_decode.py")
     print(f"{len(batch)} rows, {len(differing)} differ")
     return len(differing)
 

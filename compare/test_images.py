@@ -1,4 +1,4 @@
-"""Checks of the test batch and of the reference decoder: python3 -m unittest discover -s compare"""
+"""Checks of the test batch and of the decoder's numbers on it: python3 -m unittest discover -s compare"""
 import collections
 import pathlib
 import struct
@@ -6,15 +6,15 @@ import tempfile
 import unittest
 
 import images
-import reference
+from images import image_decode
 
 ROWS = images.rows()
 
 
 class Batch(unittest.TestCase):
-    def test_the_reference_gives_each_row_its_number(self):
+    def test_the_decoder_gives_each_row_its_number(self):
         for row in ROWS:
-            self.assertEqual(reference.number_of_image(row.words), row.number, row.name)
+            self.assertEqual(image_decode.decode(row.words).number, row.number, row.name)
 
     def test_names_tell_the_rows_apart(self):
         names = collections.Counter(row.name for row in ROWS)
@@ -34,7 +34,7 @@ class Batch(unittest.TestCase):
             self.assertIn(f"{length:,} words", name)
 
     def test_the_good_image_has_what_the_rows_count_on(self):
-        project = reference.decode(images.image())
+        project = image_decode.decode(images.image())
         self.assertEqual(len(project.patterns), images.PATTERNS)
         self.assertEqual(len(project.nodes), images.NODES)
         self.assertEqual(len(project.links), images.LINKS)
@@ -51,12 +51,12 @@ class Batch(unittest.TestCase):
                 path = folder / f"case{i:03}"
                 self.assertEqual(line, f"{row.number} {row.name}")
                 self.assertEqual(path.read_bytes(), images.driver_input(row.words))
-                self.assertEqual(reference.judged_line(path).split()[0], str(row.number), row.name)
+                self.assertEqual(image_decode.decode_input(path.read_bytes()).number, row.number, row.name)
 
 
-class Reference(unittest.TestCase):
+class Decoder(unittest.TestCase):
     def test_the_tables_of_the_good_image(self):
-        project = reference.decode(images.image())
+        project = image_decode.decode(images.image())
         self.assertEqual(project.options["start clock"], 82_800)
         self.assertEqual(project.options["demand multiplier"], 1.0)
         self.assertEqual([pattern["multipliers"] for pattern in project.patterns], [[1.0, 0.5], [1.5, -0.5, 0.25]])
@@ -71,16 +71,17 @@ class Reference(unittest.TestCase):
         self.assertEqual([premise["value"] for premise in project.premises], [10.5, 2, 7_200])
 
     def test_the_place_of_a_fault(self):
+        good = images.image()
         cases = [
-            (images.image(options=images.options(report=0)), 0),
-            (images.image(pattern_0=images.pattern(images.NAN)), 11),
-            (images.image(options=images.options(default_pattern=9)), len(images.image())),
-            (images.image() + [0], len(images.image())),
+            # the words, the record, where it begins, the words in front of it that are read
+            (images.image(options=images.options(report=0)), 1, 0, 0),
+            (images.image(pattern_0=images.pattern(images.NAN)), 2, 11, 11),
+            (images.image(options=images.options(default_pattern=9)), 1, 0, len(good)),
+            (good + [0], 20, len(good), len(good)),
         ]
-        for words, at in cases:
-            with self.assertRaises(reference.Fault) as caught:
-                reference.decode(words)
-            self.assertEqual(caught.exception.at, at)
+        for words, record, at, read in cases:
+            decoded = image_decode.decode(words)
+            self.assertEqual((decoded.fault.record, decoded.fault.at, decoded.read), (record, at, read))
 
     def test_files_that_are_no_count_and_words(self):
         for data in [
@@ -91,15 +92,13 @@ class Reference(unittest.TestCase):
             struct.pack("<II", 2, 0),
             struct.pack("<I", 16_385) + bytes(4 * 16_385),
         ]:
-            with self.assertRaises(reference.Fault) as caught:
-                reference.image_words(data)
-            self.assertEqual(caught.exception.number, 1)
+            self.assertEqual(image_decode.judge(data).number, 1)
 
     def test_loads(self):
-        project = reference.decode(images.image())
+        project = image_decode.decode(images.image())
         # Three links and two junctions.
         good = images.record(15, *[images.number(x) for x in [1e12, -1e12, 0.0, images.MINUS_ZERO, 5.0]])
-        reference.judge_load(project, good)
+        self.assertIsNone(image_decode.judge_load(project, good))
         beyond = images.above(1e12)
         faults = [
             (7, []),
@@ -117,9 +116,7 @@ class Reference(unittest.TestCase):
             (7, (good[:-2] + images.number(images.NAN))[:-1]),
         ]
         for number, words in faults:
-            with self.assertRaises(reference.Fault) as caught:
-                reference.judge_load(project, words)
-            self.assertEqual(caught.exception.number, number)
+            self.assertEqual(image_decode.judge_load(project, words).number, number)
 
 
 if __name__ == "__main__":

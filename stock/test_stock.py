@@ -14,7 +14,7 @@ sys.dont_write_bytecode = True
 import flows  # noqa: E402
 import make  # noqa: E402
 import works  # noqa: E402
-from works import FOLDER, Junction, reference, steps  # noqa: E402
+from works import FOLDER, Junction, image_decode, steps  # noqa: E402
 
 ROOT = FOLDER.parent
 REFUSED = {"fernbank": "refused 8", "blank": "refused 5"}
@@ -22,7 +22,7 @@ REFUSED = {"fernbank": "refused 8", "blank": "refused 5"}
 
 def input_of(item):
     """The words of the image, and those of the loads."""
-    (count, *words), _ = works.image_text.split_words(item.path("image").read_bytes())
+    (count, *words), _ = works.image_show.split_words(item.path("image").read_bytes())
     return words[:count], words[count:]
 
 
@@ -58,7 +58,7 @@ class Files(unittest.TestCase):
 
     def test_the_largest_has_the_most_of_each(self):
         item = next(item for item in make.STOCK if item.name == "thornmoor")
-        told = reference.decode(input_of(item)[0])
+        told = image_decode.decode(input_of(item)[0])
         counts = [len(table) for table in (told.patterns, told.nodes, told.links, told.controls, told.premises)]
         self.assertEqual(counts, [32, 256, 384, 64, 128])
 

@@ -10,11 +10,12 @@ import sys
 from dataclasses import dataclass
 
 FOLDER = pathlib.Path(__file__).resolve().parent
-for place in ("compare", "compare/rust", "tools"):
+for place in ("compare/rust", "tools"):
     sys.path.insert(0, str(FOLDER.parent / place))
 
+import image_decode  # noqa: E402
+import image_show  # noqa: E402
 import image_text  # noqa: E402
-import reference  # noqa: E402
 import steps  # noqa: E402
 from image import CLOCK_TIME, CLOSED, DAY, FIXED_CLOSED, HIGH_LEVEL, HIGH_PRESSURE  # noqa: E402
 from image import LOW_PRESSURE, PUMP, TIME, Control, Junction, Link, Load, Options, Pattern  # noqa: E402
@@ -23,8 +24,15 @@ from values import L_TOL, Q_ZERO  # noqa: E402
 
 
 def project_of(words):
-    """The project that an accepted image says; raises reference.Fault for a refused one. Premises are left out."""
-    told = reference.decode(words)
+    """The project that an accepted image says."""
+    told = image_decode.decode(words)
+    if told.fault:
+        raise ValueError(str(told.fault))
+    return project_told(told)
+
+
+def project_told(told):
+    """A decoded image as a project. Premises are left out."""
     return Project(
         Options(*told.options.values()),
         [Pattern(pattern["multipliers"]) for pattern in told.patterns],
@@ -124,35 +132,24 @@ class Ran:
 
 def run_of(data):
     """The run on a driver's input."""
-    (count, *words), _ = image_text.split_words(data)
-    try:
-        project = project_of(words[:count])
-    except reference.Fault as fault:
-        return Ran([], f"refused {fault.number}")
-    going, taken, left = Run(project), [], words[count:]
-    size = 1 + 2 * (len(project.links) + len(project.junctions()))
+    (count, *words), _ = image_show.split_words(data)
+    told = image_decode.decode(words[:count])
+    if told.fault:
+        return Ran([], f"refused {told.number}")
+    project, left = project_told(told), words[count:]
+    going, taken, size = Run(project), [], 1 + image_decode.load_size(told)
     while not going.ended:
         going.apply_controls()
         load = None
         if left:
-            try:
-                load = load_of(project, left[:size])
-            except reference.Fault as fault:
+            if fault := image_decode.judge_load(told, left[:size]):
                 return Ran(taken, f"refused {fault.number}")
-            left = left[size:]
+            load, left = load_of(project, left[:size]), left[size:]
         taken.append(going.step(load))
     return Ran(taken, f"steps {len(taken)}")
 
 
 def load_of(project, words):
-    reference.judge_load(Told(project), words)
-    values = reference.numbers_of(words[1:])
+    """A load that has no fault."""
+    values = image_decode.numbers_of(words[1:])
     return Load(values[: len(project.links)], values[len(project.links) :])
-
-
-class Told:
-    """As much of a project as the reference asks for to judge a load."""
-
-    def __init__(self, project):
-        self.links = project.links
-        self.nodes = [{"kind": "junction"} for _ in project.junctions()]

@@ -478,6 +478,18 @@ STATUS = Code(
     *["Xhead", "TempClosed", "Closed", "Open", "Active", "Xflow", "XFCV", "XPressure", "FixedOpen", "FixedClosed"]
 )
 
+CONDITIONS = Code("high_pressure", "low_pressure", "high_level", "low_level", "time", "clock")
+ATTRIBUTES = Code(
+    *["node.demand", "node.head", "node.pressure"],
+    *["tank.level", "tank.fill_time", "tank.drain_time"],
+    *["link.flow", "link.status", "link.setting"],
+    *["system.demand", "system.time", "system.clock_time"],
+)
+OPERATORS = Code("or", "and")
+COMPARISONS = Code("=", "<>", ">", "<", ">=", "<=")
+VALUE_SORTS = Code("number", "status", "time")
+OPTION_FLAGS, OVERFLOW, DISABLED = Flags("skip", "PDA"), Flags("overflow"), Flags("disabled")
+
 START, END = Field("start", NODE), Field("end", NODE)
 LINK_STATUS = Field("status", STATUS, "Open")
 SETTING = Field("setting", NUMBER)
@@ -488,7 +500,7 @@ NO_NUMBER = Fixed(0, 0)  # +0.0
 AT_NODE = [Field("node", NODE), Field("target", NUMBER)]
 CONDITION = Cases(
     "condition",
-    Code("high_pressure", "low_pressure", "high_level", "low_level", "time", "clock"),
+    CONDITIONS,
     [
         AT_NODE,
         AT_NODE,
@@ -502,18 +514,13 @@ CONDITION = Cases(
 OF_NODE, OF_LINK, OF_SYSTEM = [Plain("node", NODE)], [Plain("link", LINK)], [Fixed(0)]
 ATTRIBUTE = Cases(
     "attribute",
-    Code(
-        *["node.demand", "node.head", "node.pressure"],
-        *["tank.level", "tank.fill_time", "tank.drain_time"],
-        *["link.flow", "link.status", "link.setting"],
-        *["system.demand", "system.time", "system.clock_time"],
-    ),
+    ATTRIBUTES,
     [OF_NODE] * 6 + [OF_LINK] * 3 + [OF_SYSTEM] * 3,
 )
 
 VALUE = Cases(
     "value's sort",
-    Code("number", "status", "time"),
+    VALUE_SORTS,
     [[Plain("number", NUMBER)], [Plain("status", STATUS), Fixed(0)], [Plain("time", SECONDS), Fixed(0)]],
 )
 
@@ -528,7 +535,7 @@ FORMS = [
             Field("pattern_timestep", SECONDS),
             Field("pattern_start", SECONDS, "0"),
             Field("start_clock", TIME_OF_DAY, "0"),
-            Field("flags", Flags("skip", "PDA"), "none"),
+            Field("flags", OPTION_FLAGS, "none"),
             Field("default_pattern", PATTERN, "none"),
             Field("demand_multiplier", NUMBER, "1.0"),
         ],
@@ -544,7 +551,7 @@ FORMS = [
             Field("least", NUMBER),
             Field("greatest", NUMBER),
             Field("diameter", NUMBER),
-            Field("flags", Flags("overflow"), "none"),
+            Field("flags", OVERFLOW, "none"),
         ],
         ("node",),
         "T",
@@ -553,7 +560,7 @@ FORMS = [
         "junction",
         5,
         [
-            Field("flags", Flags("disabled"), "none"),
+            Field("flags", DISABLED, "none"),
             Field("elevation", NUMBER),
             Runs([Field("demand", NUMBER), Field("pattern", PATTERN, "none")]),
         ],
@@ -568,9 +575,9 @@ FORMS = [
         "premise",
         8,
         [
-            Plain("operator", Code("or", "and")),
+            Plain("operator", OPERATORS),
             ATTRIBUTE,
-            Plain("comparison", Code("=", "<>", ">", "<", ">=", "<=")),
+            Plain("comparison", COMPARISONS),
             VALUE,
         ],
     ),

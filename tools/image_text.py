@@ -1,4 +1,4 @@
-"""An image as text and back: the lines around the records of image_format.
+"""The words of an image from its text: the lines around the records of image_format.
 
 Beside the records a text may have
 
@@ -11,21 +11,10 @@ Beside the records a text may have
 """
 import contextlib
 import dataclasses
-import pathlib
 import struct
-import sys
 
-from image_format import FIELD, FORMS, LOAD, NUMBER, Names, TextError, Tokens, Unfit
-from image_format import form_of, forms_of, header, tables_of, word_of
-
-# One judge of images stands in the repository's Python, and it is the reference decoder.
-sys.path.insert(0, str(pathlib.Path(__file__).resolve().parent.parent / "compare"))
-import reference  # noqa: E402
-
-WORDS_A_LINE = 8
-
-
-# --- Text to words ---
+from image_format import FIELD, FORMS, LOAD, NUMBER, Names, TextError, Tokens
+from image_format import form_of, header, tables_of, word_of
 
 
 @dataclasses.dataclass
@@ -83,6 +72,18 @@ def errors_name(line):
     except TextError as error:
         error.line = line.number
         raise
+
+
+def end_of_image(lines):
+    """How many of the lines stand in front of the line `loads`."""
+    keywords = [line.keyword for line in lines]
+    return keywords.index("loads") if "loads" in keywords else len(lines)
+
+
+def names_of(text):
+    """The names that a text gives to patterns, nodes and links, in image order."""
+    lines = list(lines_of(text))
+    return declared_names(lines[: end_of_image(lines)])
 
 
 def declared_names(lines):
@@ -174,9 +175,8 @@ def only_word(pieces):
 def assemble(text):
     """The Assembly that a text says; raises TextError with the line's number."""
     lines = list(lines_of(text))
-    keywords = [line.keyword for line in lines]
-    end_of_image = keywords.index("loads") if "loads" in keywords else len(lines)
-    names = declared_names(lines[:end_of_image])
+    end = end_of_image(lines)
+    names = declared_names(lines[:end])
     assembly = Assembly()
     for place, line in enumerate(lines):
         with errors_name(line):
@@ -184,13 +184,13 @@ def assemble(text):
                 assembly.needs_count = assembly.needs_count or line.number
             if line.keyword == "loads":
                 Tokens(line.pieces).end()
-                if place > end_of_image:
+                if place > end:
                     raise TextError("the loads have begun already")
             elif line.keyword == "bytes":
                 if line is not lines[-1]:
                     raise TextError("stray bytes are the last line of a text")
                 assembly.tail = stray_bytes(line.pieces)
-            elif place < end_of_image:
+            elif place < end:
                 assemble_image_line(assembly, line, names)
             else:
                 assemble_load_line(assembly, line, names)
@@ -214,166 +214,3 @@ def assemble_load_line(assembly, line, names):
     else:
         raise TextError(f"{line.keyword} belongs to the image, in front of the line `loads`")
     assembly.loads.append((line.number, words))
-
-
-# --- Words to text ---
-
-
-@dataclasses.dataclass
-class Shown:
-    lines: list
-    faults: list  # what is wrong with the file, in words
-
-
-def word_text(word):
-    return str(word) if word < 0x10000 else f"0x{word:08x}"
-
-
-def raw_line(kind, payload):
-    return " ".join(["raw", str(kind)] + [word_text(word) for word in payload])
-
-
-def framed(words):
-    """The (kind, payload) of each record as far as headers can be followed, then the words that are left."""
-    records, at = [], 0
-    while at < len(words):
-        kind, between, size = words[at] >> 28, words[at] >> 16 & 0xFFF, words[at] & 0xFFFF
-        if between or at + 1 + size > len(words):
-            break
-        records.append((kind, words[at + 1 : at + 1 + size]))
-        at += 1 + size
-    return records, words[at:]
-
-
-def raw_lines(words):
-    records, left = framed(words)
-    lines = [raw_line(kind, payload) for kind, payload in records]
-    for at in range(0, len(left), WORDS_A_LINE):
-        lines.append(" ".join(["words"] + [word_text(word) for word in left[at : at + WORDS_A_LINE]]))
-    return lines
-
-
-def fitting_form(kind, payload):
-    """The first form that says exactly this payload, or None. Names have no part in that: indices stay bare."""
-    names = Names()
-    for form in forms_of(kind):
-        try:
-            pieces = form.show(payload, names, "x").split()
-            if form.read(Tokens(pieces[1:]), names) == payload:
-                return form
-        except (Unfit, TextError):
-            continue
-    return None
-
-
-def made_names(records, forms):
-    """A name for each record that has one, of its form's letters and its index; and the tables of names."""
-    names, own = Names(), []
-    for (kind, _), form in zip(records, forms):
-        tables = tables_of(kind)
-        name = f"{form.letters}{len(names.tables[tables[0]])}" if form and tables else None
-        names.declare(tables, name)
-        own.append(name)
-    return names, own
-
-
-def shown_image(words, end):
-    """The lines of an image, by forms up to `end` and raw from there on; and the names that they use."""
-    records, _ = framed(words[:end])
-    forms = [fitting_form(kind, payload) for kind, payload in records]
-    names, own = made_names(records, forms)
-    lines = [
-        form.show(payload, names, name) if form else raw_line(kind, payload)
-        for (kind, payload), form, name in zip(records, forms, own)
-    ]
-    return lines + raw_lines(words[end:]), names
-
-
-def shown_load(words, names):
-    """The line of a load that has no fault."""
-    values = [NUMBER.show(words[at : at + 2], names) for at in range(1, len(words), 2)]
-    links, junctions = names.tables["link"], names.tables["junction"]
-    named = [f"{name}={value}" for name, value in zip(links + junctions, values)]
-    return " ".join(["load", "flow"] + named[: len(links)] + ["head"] + named[len(links) :])
-
-
-def shown_loads(words, project, names):
-    """The lines of the loads up to the first fault, raw lines from there on, and the fault in words."""
-    lines, at, size = [], 0, reference.load_size(project)
-    while at < len(words):
-        load = words[at : at + 1 + size]
-        try:
-            reference.judge_load(project, load)
-        except reference.Fault as fault:
-            return lines + raw_lines(words[at:]), [f"load {len(lines) + 1} refused with {fault}"]
-        lines.append(shown_load(load, names))
-        at += len(load)
-    return lines, []
-
-
-def split_words(data):
-    """The words of a file and the bytes after the last of them."""
-    count = len(data) // 4
-    return list(struct.unpack_from(f"<{count}I", data)), data[4 * count :]
-
-
-def judged(words):
-    """The project of an accepted image and None, or None and the first fault."""
-    try:
-        return reference.decode(words), None
-    except reference.Fault as fault:
-        return None, fault
-
-
-def fault_text(fault, words):
-    if fault.number == 1:
-        return f"refused with {fault}"
-    place = f"in the record at word {fault.at}" if fault.at < len(words) else "after the last record"
-    return f"refused with {fault}, {place}"
-
-
-def shown_judged(words):
-    """An image's text, the project (None if it is refused), and the names."""
-    project, fault = judged(words)
-    if fault is None:
-        lines, names = shown_image(words, len(words))
-        return Shown(lines, []), project, names
-    lines, names = shown_image(words, fault.at)
-    return Shown(lines, [fault_text(fault, words)]), None, names
-
-
-def show(data):
-    """An image's file as text."""
-    words, tail = split_words(data)
-    shown, _, _ = shown_judged(words)
-    return with_tail(shown, tail)
-
-
-def show_input(data):
-    """The driver's input as text: the count, the image, loads."""
-    words, tail = split_words(data)
-    if not words:
-        raise TextError("the count is cut short")
-    count, words = words[0], words[1:]
-    if count > len(words):
-        fault = f"refused with 1: the count is {count:,}, and {len(words):,} words follow"
-        return with_tail(Shown([f"count {count}"] + raw_lines(words), [fault]), tail)
-    shown, project, names = shown_judged(words[:count])
-    return with_tail(with_loads(shown, words[count:], project, names), tail)
-
-
-def with_loads(shown, words, project, names):
-    if not words:
-        return shown
-    if project is None:
-        lines, faults = raw_lines(words), []
-    else:
-        lines, faults = shown_loads(words, project, names)
-    return Shown(shown.lines + ["loads"] + lines, shown.faults + faults)
-
-
-def with_tail(shown, tail):
-    if not tail:
-        return shown
-    line, fault = "bytes " + tail.hex(" "), f"{len(tail)} stray bytes after the last word"
-    return Shown(shown.lines + [line], shown.faults + [fault])

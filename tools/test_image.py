@@ -8,14 +8,16 @@ import sys
 import tempfile
 import unittest
 
+import image_decode
 import image_format
+import image_show
 import image_text
 from image_format import FORMS, Cases, Field, Flags, Form, IndexOrNone, Names, Present, Runs, TextError, Tokens, Word
 
-# image_text has put the folder of the test batch on the path.
-import images
-
 TOOL = pathlib.Path(__file__).resolve().parent / "image"
+sys.path.insert(0, str(TOOL.parent.parent / "compare"))
+import images  # noqa: E402
+
 ROWS = images.rows()
 
 EXAMPLE = """
@@ -142,17 +144,17 @@ class Loads(unittest.TestCase):
     def test_shown_by_name_until_the_first_fault(self):
         text = NETWORK + "loads\nload flow 1 2 head 3 4\nload flow 1 2 head 3 nan\nload flow 1 2 head 3 4\n"
         data = image_text.assemble(text).data(counted=True)
-        shown = image_text.show_input(data)
+        shown = image_show.show_input(data)
         self.assertIn("load flow pipe0=1.0 pump1=2.0 head J2=3.0 J3=4.0", shown.lines)
         self.assertEqual([line.split()[0] for line in shown.lines[-4:]], ["loads", "load", "raw", "raw"])
         self.assertEqual(len(shown.faults), 1)
-        self.assertIn("load 2 refused with 8", shown.faults[0])
+        self.assertIn("refused 8: load 2", shown.faults[0])
         self.assertEqual(assembled(shown, counted=True), data)
 
     def test_a_load_of_the_wrong_size_and_stray_bytes(self):
         data = image_text.assemble(NETWORK + "loads\nload flow 1.0\nbytes 0a ff").data(counted=True)
-        shown = image_text.show_input(data)
-        self.assertIn("load 1 refused with 7", shown.faults[0])
+        shown = image_show.show_input(data)
+        self.assertIn("refused 7: load 1", shown.faults[0])
         self.assertEqual(shown.lines[-1], "bytes 0a ff")
         self.assertEqual(assembled(shown, counted=True), data)
 
@@ -165,30 +167,30 @@ class Showing(unittest.TestCase):
     def test_every_row_of_the_batch_comes_back(self):
         for row in ROWS:
             with self.subTest(row.name):
-                shown = image_text.show(packed(row.words))
+                shown = image_show.show(packed(row.words))
                 self.assertEqual(assembled(shown, counted=False), packed(row.words))
                 counted = images.driver_input(row.words)
-                self.assertEqual(assembled(image_text.show_input(counted), counted=True), counted)
+                self.assertEqual(assembled(image_show.show_input(counted), counted=True), counted)
 
     def test_an_accepted_image_has_no_raw_lines(self):
         for row in ROWS:
             if row.number == 0:
-                shown = image_text.show(packed(row.words))
+                shown = image_show.show(packed(row.words))
                 self.assertFalse(any(map(raw, shown.lines)), row.name)
                 self.assertEqual(shown.faults, [], row.name)
 
     def test_a_refused_image_is_raw_from_its_first_fault_on(self):
         for row in ROWS:
             if row.number:
-                shown = image_text.show(packed(row.words))
+                shown = image_show.show(packed(row.words))
                 kinds = [raw(line) for line in shown.lines]
                 self.assertEqual(kinds, sorted(kinds), row.name)
-                self.assertIn(f"refused with {row.number}:", shown.faults[0], row.name)
-                _, fault = image_text.judged(row.words)
-                self.assertEqual(any(kinds), fault.at < len(row.words), row.name)
+                self.assertIn(f"refused {row.number}:", shown.faults[0], row.name)
+                read = image_decode.decode(row.words).read
+                self.assertEqual(any(kinds), read < len(row.words), row.name)
 
     def test_the_raw_part_begins_at_the_faulty_record(self):
-        shown = image_text.show(packed(images.image(tank=images.tank(diameter=0.0))))
+        shown = image_show.show(packed(images.image(tank=images.tank(diameter=0.0))))
         first = next(line for line in shown.lines if raw(line))
         self.assertTrue(first.startswith("raw 4 "))
 
@@ -200,13 +202,13 @@ class Showing(unittest.TestCase):
             for _ in range(chance.randrange(4)):
                 data[chance.randrange(4, len(data) + 1) - 1] = chance.randrange(256)
             data = bytes(data[: chance.choice([len(data), chance.randrange(4, len(data) + 1)])])
-            self.assertEqual(assembled(image_text.show_input(data), counted=True), data)
-            self.assertEqual(assembled(image_text.show(data), counted=False), data)
+            self.assertEqual(assembled(image_show.show_input(data), counted=True), data)
+            self.assertEqual(assembled(image_show.show(data), counted=False), data)
 
     def test_a_count_that_is_not_true(self):
-        shown = image_text.show_input(packed([5, 0x1000000A, 1]))
+        shown = image_show.show_input(packed([5, 0x1000000A, 1]))
         self.assertEqual(shown.lines, ["count 5", "words 0x1000000a 1"])
-        self.assertIn("refused with 1", shown.faults[0])
+        self.assertIn("refused 1", shown.faults[0])
 
     def test_nan_keeps_its_bits(self):
         line = image_format.NUMBER.show([1, 0x7FF00000], Names())
@@ -214,7 +216,7 @@ class Showing(unittest.TestCase):
 
     def test_times_of_day(self):
         words = words_of("options duration=90000 hydraulic=0 report=1 pattern_timestep=1 start_clock=82805")
-        (line,) = image_text.show(packed(words)).lines
+        (line,) = image_show.show(packed(words)).lines
         self.assertIn("duration=90000", line)
         self.assertIn("start_clock=23:00:05", line)
 
@@ -295,13 +297,13 @@ class Command(unittest.TestCase):
     def test_a_refused_image_is_shown_and_named(self):
         shown = self.run_tool("show", "-", given=packed([0x10000000]))
         self.assertEqual((shown.returncode, shown.stdout), (1, b"raw 1\n"))
-        self.assertIn(b"refused with 2: kind 1 has no payload of 0 words", shown.stderr)
+        self.assertIn(b"refused 2: record 1, options: payload of 0 words, options have 10", shown.stderr)
 
     def test_check_names_the_line_and_writes_nothing(self):
         text = NETWORK + "pipe start=T end=T diameter=1\n"
         made = self.run_tool("assemble", "--check", "-", given=text.encode())
         self.assertEqual((made.returncode, made.stdout), (1, b""))
-        self.assertIn(b"-:11: refused with 5: start and end are both node 1", made.stderr)
+        self.assertIn(b"-:11: refused 5: record 10, pipe pipe2, words 1 and 2: start and end are both node 1", made.stderr)
 
     def test_an_error_names_the_file_and_the_line(self):
         made = self.run_tool("assemble", "-", given=b"\ntub\n")
@@ -342,7 +344,7 @@ class NewKinds(unittest.TestCase):
         with self.in_the_table(form):
             words = words_of(NETWORK + text)[-len(payload) - 1 :]
             self.assertEqual(words, [form.kind << 28 | len(payload)] + payload)
-            self.assertIs(image_text.fitting_form(form.kind, payload), form)
+            self.assertIs(image_show.fitting_form(form.kind, payload), form)
             line = form.show(payload, Names(), "x")
             self.assertEqual(form.read(Tokens(line.split()[1:]), Names()), payload)
 
