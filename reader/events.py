@@ -3,7 +3,8 @@
 from image_format import STATUS
 
 from reader.listing import DAY, clock, day, elapsed
-from reader.network import CLOCK, HIGH_LEVEL, TIME, is_open
+from reader.network import CLOCK, HIGH_LEVEL, TIME, is_open, standing
+from reader.states import changed
 
 
 def feet(level):
@@ -13,13 +14,6 @@ def feet(level):
 def moving(demand):
     """How a tank's level goes, by its net inflow."""
     return "rising" if demand > 0 else "falling" if demand < 0 else "standing"
-
-
-def condition_of(status):
-    """How a link stands, in a word."""
-    if STATUS.names[status] == "Active":
-        return "active"
-    return "open" if is_open(status) else "closed"
 
 
 class Moment:
@@ -33,8 +27,8 @@ class Moment:
 class Events:
     """Takes the turns of a run one by one and answers the lines that tell of them."""
 
-    def __init__(self, network, start, fault):
-        self.network, self.start, self.fault = network, start, fault
+    def __init__(self, network, start, reason):
+        self.network, self.start, self.reason = network, start, reason
         self.moment = Moment(0)
         self.width = len(elapsed(network.duration))
         self.steps, self.last = 0, start
@@ -46,7 +40,7 @@ class Events:
         self.switch(turn, moment)
         moment.said += self.passings(moment)
         if turn.refused:
-            moment.said.append(str(self.fault))
+            moment.said.append(self.reason)
             return [self.line(moment)]
         moment.said += self.closings(turn)
         self.steps, self.last = self.steps + 1, turn.stepped
@@ -84,7 +78,7 @@ class Events:
             yield f"{self.network.node_name(tank)} {level}, {moving(state.demands[tank])}"
         for link, status in enumerate(self.start.statuses):
             if self.network.link_sort(link) != "pipe" or not is_open(status):
-                yield f"{self.network.link_name(link)} {condition_of(status)}"
+                yield f"{self.network.link_name(link)} {standing(status)}"
 
     # --- controls ---
 
@@ -171,9 +165,3 @@ class Events:
     def reaches(self, tank, target, turn):
         reached = self.network.has_reached
         return reached(turn.stepped, tank, target) and not reached(turn.closed, tank, target)
-
-
-def changed(before, after):
-    """The links whose status or setting differs."""
-    old, new = zip(before.statuses, before.settings), zip(after.statuses, after.settings)
-    return [link for link, (one, other) in enumerate(zip(old, new)) if one != other]

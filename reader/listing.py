@@ -25,19 +25,22 @@ def day(seconds):
 
 @dataclass
 class Listing:
-    """What the lines say: the steps as (instant, length), and the number of a refusal or 0."""
+    """What the lines say, taken one by one."""
 
-    steps: list = field(default_factory=list)
-    refused: int = 0
+    accepted: bool = False  # the image; its loads may be refused yet
+    steps: list = field(default_factory=list)  # (instant, length)
+    refused: int = 0  # document 01's number
     ended: bool = False
 
     def take(self, line):
         first, _, second = line.partition(" ")
-        if first == "refused":
+        if first == "from":
+            self.accepted = True
+        elif first == "refused":
             self.refused, self.ended = int(second), True
         elif first == "steps":
             self.ended = True
-        elif first != "from":
+        else:
             self.steps.append((int(first), int(second)))
 
     def judge_end(self):

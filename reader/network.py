@@ -20,6 +20,13 @@ def is_open(status):
     return STATUS.names[status] in OPENS
 
 
+def standing(status):
+    """How a link stands, in a word."""
+    if STATUS.names[status] == "Active":
+        return "active"
+    return "open" if is_open(status) else "closed"
+
+
 class Network:
     def __init__(self, tables, names):
         self.tables, self.names = tables, names

@@ -5,7 +5,6 @@ from dataclasses import dataclass
 
 import image_decode
 
-from reader import programs
 from reader.failure import DIED, Failure
 
 PATTERNS, CONTROLS, LOAD, CLOSE, STEP = 1, 2, 3, 4, 7  # the codes of the calls
@@ -23,6 +22,12 @@ class State:
     settings: tuple
 
 
+def changed(before, after):
+    """The links whose status or setting differs."""
+    old, new = zip(before.statuses, before.settings), zip(after.statuses, after.settings)
+    return [link for link, (one, other) in enumerate(zip(old, new)) if one != other]
+
+
 @dataclass
 class Turn:
     """One turn of the driver: the state after each of its calls. A refused load ends the run in mid-turn."""
@@ -37,7 +42,7 @@ class Turn:
 
 
 class Lines:
-    """The lines of `replay`, read one by one: what a call answers, and the state after it."""
+    """The lines of `replay`, taken one by one: what a call answers, and the state after it."""
 
     def __init__(self, lines, project):
         self.lines = iter(lines)
@@ -46,9 +51,11 @@ class Lines:
 
     def next(self, call):
         """The answer to the next call, which is to be this one, and the state."""
-        name, answer, words = next(self.lines, b"nothing at all").decode().split(" ", 2)
+        line = next(self.lines, b"").decode()
+        name, _, rest = line.partition(" ")
         if name != call:
-            raise Failure(f"replay answers {name} {answer} where {call} was called", DIED)
+            raise Failure(f"replay answers {name or 'nothing'} where {call} was called", DIED)
+        answer, _, words = rest.partition(" ")
         return answer, self.state(words)
 
     def state(self, words):
@@ -90,10 +97,10 @@ def load_call(loads):
 class Run:
     """A run of an accepted image: the state at the start, then the turns as they come."""
 
-    def __init__(self, replay, data, project, listing):
+    def __init__(self, lines, data, project, listing):
         self.listing = listing
         self.loads = len(list(loads_of(data, project)))
-        self.lines = Lines(programs.lines(replay, input_of(data, project, listing)), project)
+        self.lines = Lines(lines, project)
         _, self.start = self.lines.next("start")
 
     def turns(self):
