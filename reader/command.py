@@ -102,8 +102,8 @@ def answer(asked):
         print(USAGE, end="")
         return 0
     if asked.list:
-        for name, title in works.stock().items():
-            print(f"{name:12} {title}")
+        for name, path in works.stock().items():
+            print(f"{name:12} {works.title_of(path.read_text())}")
         return 0
     item = works.find("netherbeck" if asked.works is None else asked.works)
     with_states = asked.events or asked.picture is not None

@@ -2,7 +2,7 @@
 
 from image_format import STATUS
 
-from reader.listing import DAY, clock, day, elapsed
+from reader.listing import DAY, clock, counted, day, elapsed
 from reader.network import CLOCK, HIGH_LEVEL, TIME, is_open, standing
 from reader.states import changed
 
@@ -53,7 +53,7 @@ class Events:
         if not self.steps:
             self.moment.said += self.beginning(self.start)
         self.moment.said += self.passings(self.moment)
-        self.moment.said.append(f"end of the run, {self.steps} step{'s' * (self.steps != 1)}")
+        self.moment.said.append(f"end of the run, {counted(self.steps)}")
         for tank in self.network.tanks:
             self.tell_level(self.moment, tank)
         return [self.line(self.moment)]

@@ -18,6 +18,10 @@ def elapsed(seconds):
     return f"{seconds // 3600}:{seconds // 60 % 60:02}:{seconds % 60:02}"
 
 
+def counted(steps):
+    return f"{steps:,} step" if steps == 1 else f"{steps:,} steps"
+
+
 def day(seconds):
     """The day of the run, from 1."""
     return seconds // DAY + 1

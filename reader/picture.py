@@ -1,8 +1,8 @@
 """A run as a picture: plain SVG, in black and grey, told apart by dashes and hatching and not by colour."""
 
-from xml.sax.saxutils import escape
+from html import escape
 
-from reader.listing import DAY, clock, day, elapsed
+from reader.listing import DAY, clock, counted, day, elapsed
 from reader.timeline import CONTROL, TANK
 
 LEFT, PLOT, RIGHT = 170, 710, 120  # names, the run, levels; longer names make more room
@@ -49,7 +49,7 @@ def line(kind, x1, y1, x2, y2):
 
 def text(words, x, y, kind=""):
     named = f' class="{kind}"' if kind else ""
-    return f'<text{named} x="{x:.1f}" y="{y:.1f}">{escape(words)}</text>'
+    return f'<text{named} x="{x:.1f}" y="{y:.1f}">{escape(words, quote=False)}</text>'
 
 
 def box(kind, x, y, width, height):
@@ -99,7 +99,7 @@ class Picture:
         self.draw_legend()
         size = f'width="{self.width}" height="{self.y}"'
         lines = [f'<svg xmlns="http://www.w3.org/2000/svg" {size} viewBox="0 0 {self.width} {self.y}">']
-        lines += [f"<title>{escape(self.title)}</title>", STYLE, f'<rect {size} fill="white"/>']
+        lines += [f"<title>{escape(self.title, quote=False)}</title>", STYLE, f'<rect {size} fill="white"/>']
         return "\n".join([*lines, *self.heading(), *grid, *self.parts, "</svg>", ""])
 
     def name(self, words, y):
@@ -108,7 +108,7 @@ class Picture:
 
     def heading(self):
         start = self.network.start_clock
-        told = f"{elapsed(self.network.duration)} from {clock(start)}, {len(self.timeline.steps)} steps"
+        told = f"{elapsed(self.network.duration)} from {clock(start)}, {counted(len(self.timeline.steps))}"
         if self.timeline.refused:
             told += f", refused {self.timeline.refused[0]} at {elapsed(self.timeline.refused[1])}"
         return [text(self.title, 16, 26, "title"), text(told, 16, 44)]

@@ -28,7 +28,7 @@ mkdir -p target/bin
 cp bin/driver bin/replay target/bin
 """
 
-DRIVER = f"""#!{sys.executable}
+DRIVER = f"""#!{sys.executable} -S
 import os, pathlib, sys
 data = sys.stdin.buffer.read()
 if "DRIVER_DIES" in os.environ:
@@ -42,7 +42,7 @@ else:
     print("refused 1")
 """
 
-REPLAY = f"""#!{sys.executable}
+REPLAY = f"""#!{sys.executable} -S
 import pathlib, sys
 data = sys.stdin.buffer.read()
 image = data[: 4 + 4 * int.from_bytes(data[:4], "little")]

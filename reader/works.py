@@ -41,8 +41,8 @@ def title_of(text):
 
 
 def stock():
-    """The names of the works of the stock and their titles."""
-    return {path.stem: title_of(path.read_text()) for path in sorted((ROOT / "stock").glob("*.txt"))}
+    """The works of the stock: their names, and the files of their texts."""
+    return {path.stem: path for path in sorted((ROOT / "stock").glob("*.txt"))}
 
 
 def find(asked):
@@ -50,7 +50,7 @@ def find(asked):
     if asked == "-":
         return Works("standard input", sys.stdin.buffer.read())
     if asked in stock():
-        return of_image(ROOT / "stock" / f"{asked}.image")
+        return of_image(stock()[asked].with_suffix(".image"))
     path = pathlib.Path(asked)
     if not path.exists():
         raise Failure(f"{asked} is no works of the stock and no file; ./run --list has the stock")
