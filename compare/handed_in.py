@@ -12,9 +12,9 @@ import pathlib
 import struct
 
 import images
+from images import LAST_OF_DAY, LONGEST, above, number
 
 NOT_FINITE = [math.nan, math.inf, -math.inf]
-LONGEST, LAST_OF_DAY = 315_360_000, 86_399
 PATTERN_LENGTHS = [2, 3]
 
 (INSTANT, COUNT, HEAD, DEMAND, DEMAND_FLOW, FLOW, STATUS, SETTING) = range(8)
@@ -30,16 +30,8 @@ BROKEN_STATE = [0] + [10] * 7
 BROKEN_TABLES = [10] * 8
 
 
-def above(x):
-    return math.nextafter(x, math.inf)
-
-
 def whole(value):
     return [value % 2**32, value // 2**32]
-
-
-def bits(x):
-    return list(struct.unpack("<II", struct.pack("<d", x)))
 
 
 def numbers(limit):
@@ -61,7 +53,7 @@ def state_changes():
         for index in (0, 1, last - 1, last):
             for x, within in numbers(limit):
                 # "entries past the counts .. are not judged"
-                yield what, index, bits(x), good() if within or index == last else BROKEN_STATE
+                yield what, index, number(x), good() if within or index == last else BROKEN_STATE
     for status in (0, 3, 9, 10, 255, 2**32 - 1):
         yield STATUS, 1, whole(status), good() if status <= 9 else BROKEN_STATE
         yield STATUS, images.LINKS, whole(status), good()
@@ -100,7 +92,7 @@ def table_changes():
             yield LENGTH, pattern, whole(new), good() if 1 <= new <= length else BROKEN_TABLES
         for x, within in numbers(1e6):
             for place in (0, length - 1, length, 167):
-                yield MULTIPLIER, 168 * pattern + place, bits(x), good() if within or place >= length else BROKEN_TABLES
+                yield MULTIPLIER, 168 * pattern + place, number(x), good() if within or place >= length else BROKEN_TABLES
     yield LENGTH, len(PATTERN_LENGTHS), whole(169), good()
 
 

@@ -97,7 +97,7 @@ def words_text(words):
 
 @dataclasses.dataclass
 class Decoded:
-    """The tables of an image, each entry a dict with the paper's names for the fields; up to the fault, if it has one."""
+    """The tables of an image up to its fault, if it has one; each entry is a dict by the paper's names of the fields."""
 
     options: dict = None
     patterns: list = dataclasses.field(default_factory=list)
@@ -417,7 +417,8 @@ def judge_room(project, kind):
     """Number 4, of the record that is about to be added."""
     thing = STAGE_OF[kind]
     if thing in MOST:
-        require(len(getattr(project, thing)) < MOST[thing], 4, f"one too many: an image has at most {MOST[thing]} {thing}")
+        most = MOST[thing]
+        require(len(getattr(project, thing)) < most, 4, f"one too many: an image has at most {most} {thing}")
 
 
 def read_record(project, words, before):

@@ -5,25 +5,44 @@ list. Values (Number, Seconds, Code, ..) turn one field's words to text and back
 put fields together. Nothing here judges a value: a text may say an image that is refused, and tests need such.
 """
 import collections
+import contextlib
 import dataclasses
 import math
 import re
 import struct
 
 NAME = re.compile(r"[A-Za-z_][A-Za-z0-9_.-]*")
+NAME_RULE = "a letter (A to Z, a to z) or _ and then letters, digits, _ . -"
 FIELD = re.compile(rf"({NAME.pattern})=(.*)")
-DECIMAL = re.compile(r"[+-]?(\d+(\.\d*)?|\.\d+)([eE][+-]?\d+)?")
+WORD = re.compile(r"[0-9]+|0x[0-9a-fA-F]+")
+DECIMAL = re.compile(r"[+-]?([0-9]+(\.[0-9]*)?|\.[0-9]+)([eE][+-]?[0-9]+)?")
 # These mean something else where a name could stand.
-RESERVED = {"none", "nan", "inf"}
+RESERVED = ("none", "nan", "inf")
+MOST_IN_A_WORD = (1 << 32) - 1
 
 
 class TextError(Exception):
-    """What is wrong with a line of text; the line's number is added on the way up."""
+    """What is wrong with a text, and what was expected; the line's number is added on the way up."""
 
-    def __init__(self, message, line=None):
-        super().__init__(message)
-        self.message = message
+    def __init__(self, wrong, expected=None, line=None):
+        super().__init__(wrong)
+        self.wrong = wrong
+        self.expected = expected
         self.line = line
+
+    @property
+    def message(self):
+        return f"{self.wrong}; expected {self.expected}" if self.expected else self.wrong
+
+
+@contextlib.contextmanager
+def in_front(text):
+    """Puts a text in front of an error on the way up."""
+    try:
+        yield
+    except TextError as error:
+        error.wrong = text + error.wrong
+        raise
 
 
 class Unfit(Exception):
@@ -39,12 +58,12 @@ class Names:
     def declare(self, tables, name):
         for table in tables:
             if name is not None and name in self.tables[table]:
-                raise TextError(f"there is a {table} {name} already")
+                raise TextError(f"there is a {table} {name} already", "another name")
             self.tables[table].append(name)
 
     def index(self, table, name):
         if name not in self.tables[table]:
-            raise TextError(f"there is no {table} {name}")
+            raise TextError(f"{name} is no {table} of this image", f"the name of a {table}")
         return self.tables[table].index(name)
 
     def name(self, table, index):
@@ -53,19 +72,21 @@ class Names:
         return entries[index] if index < len(entries) else None
 
 
-# --- Values: the words of one field and their text ---
+# --- Values: the words of one field and their text. An error begins with the text that is wrong ---
+
+
+def listed(names):
+    """'a', 'a or b', 'a, b or c'."""
+    return " or ".join(filter(None, [", ".join(names[:-1]), names[-1]]))
 
 
 def word_of(text):
     """A word: decimal, or hex after 0x."""
-    if re.fullmatch(r"\d+", text):
-        value = int(text)
-    elif re.fullmatch(r"0x[0-9a-fA-F]+", text):
-        value = int(text, 16)
-    else:
-        raise TextError(f"{text} is no word: write a decimal count or 0x and hex digits")
-    if value >= 1 << 32:
-        raise TextError(f"{text} does not fit a word of 32 bits")
+    if not WORD.fullmatch(text):
+        raise TextError(f"{text} is no word", "a whole number from 0 or 0x and hex digits")
+    value = int(text, 16 if text.startswith("0x") else 10)
+    if value > MOST_IN_A_WORD:
+        raise TextError(f"{text} does not fit a word of 32 bits", f"at most {MOST_IN_A_WORD}")
     return value
 
 
@@ -88,11 +109,11 @@ class Seconds(Word):
         self.of_day = of_day
 
     def read(self, text, names):
-        if ":" not in text:
+        if WORD.fullmatch(text):
             return super().read(text, names)
-        match = re.fullmatch(r"(\d+):([0-5]\d):([0-5]\d)", text)
+        match = re.fullmatch(r"([0-9]+):([0-5][0-9]):([0-5][0-9])", text)
         if not match:
-            raise TextError(f"{text} is no time: write seconds or h:mm:ss")
+            raise TextError(f"{text} is no time", "whole seconds from 0 or h:mm:ss, as in 5400 or 1:30:00")
         hours, minutes, seconds = map(int, match.groups())
         return [word_of(str(3600 * hours + 60 * minutes + seconds))]
 
@@ -116,7 +137,7 @@ class Number:
 
     def of_bits(self, text):
         if not re.fullmatch(r"0x[0-9a-fA-F]{1,16}", text):
-            raise TextError(f"{text} are not the bits of a number: write 0x and up to 16 hex digits")
+            raise TextError(f"{text} are not the bits of a number", "0x and up to 16 hex digits")
         bits = int(text, 16)
         return [bits & 0xFFFFFFFF, bits >> 32]
 
@@ -124,10 +145,10 @@ class Number:
         if text in ("inf", "-inf", "nan"):
             return float(text)
         if not DECIMAL.fullmatch(text):
-            raise TextError(f"{text} is no number")
+            raise TextError(f"{text} is no number", "a decimal as in 12, -0.5 or 1e-3, inf, -inf, nan, or 0x and bits")
         value = float(text)
         if math.isinf(value):
-            raise TextError(f"{text} is beyond every f64: write inf if that is meant")
+            raise TextError(f"{text} is beyond every f64", "inf, if that is meant")
         return value
 
     def show(self, words, names):
@@ -142,15 +163,17 @@ class Code:
 
     size = 1
 
-    def __init__(self, *names):
+    def __init__(self, *names, what="code", then=""):
         self.names = names
+        self.what = what
+        self.then = then  # what else to expect behind it
 
     def read(self, text, names):
         if text in self.names:
             return [self.names.index(text)]
-        if text[:1].isdigit():
+        if WORD.fullmatch(text):
             return [word_of(text)]
-        raise TextError(f"{text} is none of {' '.join(self.names)}")
+        raise TextError(f"{text} is no {self.what}", f"one of {', '.join(self.names)}{self.then}")
 
     def show(self, words, names):
         (code,) = words
@@ -168,12 +191,13 @@ class Flags:
     def read(self, text, names):
         if text == "none":
             return [0]
-        if text[:1].isdigit():
+        if WORD.fullmatch(text):
             return [word_of(text)]
         flags = 0
         for name in text.split("+"):
             if name not in self.names:
-                raise TextError(f"{name} is none of the flags {' '.join(self.names)}")
+                joined = " (several are joined by +)" if len(self.names) > 1 else ""
+                raise TextError(f"{text} has an unknown flag", listed(["none", *self.names]) + joined)
             flags |= 1 << self.names.index(name)
         return [flags]
 
@@ -193,9 +217,13 @@ class Index:
         self.table = table
 
     def read(self, text, names):
-        if text[:1].isdigit():
+        if WORD.fullmatch(text):
             return [word_of(text)]
-        return [names.index(self.table, text)]
+        try:
+            return [names.index(self.table, text)]
+        except TextError as error:
+            error.expected += " or its index, counted from 0"
+            raise
 
     def show(self, words, names):
         (index,) = words
@@ -235,10 +263,17 @@ class Tokens:
             raise TextError(f"{what} is missing")
         return self.left.pop(0)
 
-    def name(self):
-        """The name in front, if there is one."""
-        if not self.left or not NAME.fullmatch(self.left[0]) or self.left[0] in RESERVED:
+    def name(self, numbers_follow=False):
+        """The name in front, if there is one: not a field, and no number where those may follow the name."""
+        if not self.left or "=" in self.left[0]:
             return None
+        name = self.left[0]
+        if numbers_follow and (DECIMAL.fullmatch(name) or name[:2] == "0x" or name in ("nan", "inf", "-inf")):
+            return None
+        if not NAME.fullmatch(name):
+            raise TextError(f"{name} is no name", NAME_RULE)
+        if name in RESERVED:
+            raise TextError(f"{name} is no name", f"another: {listed(RESERVED)} means something else")
         return self.left.pop(0)
 
     def field(self, key):
@@ -293,10 +328,14 @@ class Field:
             text = self.default
         if text is None:
             raise TextError(f"{self.key}= is missing")
-        return self.value.read(text, names)
+        with in_front(f"{self.key}="):
+            return self.value.read(text, names)
 
     def show(self, words, names):
         return [f"{self.key}={self.value.show(take(words, self.value.size), names)}"]
+
+    def usage(self):
+        return [f"{self.key}=" if self.default is None else f"[{self.key}=]"]
 
 
 class Plain:
@@ -311,6 +350,9 @@ class Plain:
 
     def show(self, words, names):
         return [self.value.show(take(words, self.value.size), names)]
+
+    def usage(self):
+        return [self.what.upper()]
 
 
 class Fixed:
@@ -327,6 +369,9 @@ class Fixed:
             raise Unfit
         return []
 
+    def usage(self):
+        return []
+
 
 class Cases:
     """A code without a key that decides which parts follow it."""
@@ -338,7 +383,7 @@ class Cases:
     def read(self, tokens, names):
         (code,) = self.code.read(tokens, names)
         if code >= len(self.cases):
-            raise TextError(f"{code} is no {self.code.what}: write the record as a raw line")
+            raise TextError(f"{code} is no {self.code.what}", f"0 to {len(self.cases) - 1}, or a raw line")
         return [code] + read_parts(self.cases[code], tokens, names)
 
     def show(self, words, names):
@@ -346,6 +391,10 @@ class Cases:
             raise Unfit
         following = self.cases[words[0]]
         return self.code.show(words, names) + show_parts(following, words, names)
+
+    def usage(self):
+        """The parts of each case differ: .. stands for them."""
+        return self.code.usage() + [".."]
 
 
 class Present:
@@ -375,6 +424,9 @@ class Present:
                 Fixed(*[0] * field.value.size).show(words, names)
         return pieces
 
+    def usage(self):
+        return [f"[{field.key}=]" for field in self.fields]
+
 
 class Rest:
     """Values without a key to the end of the line, at least one."""
@@ -393,6 +445,9 @@ class Rest:
         while words:
             pieces += self.each.show(words, names)
         return pieces
+
+    def usage(self):
+        return self.each.usage() + [".."]
 
 
 class Runs:
@@ -429,6 +484,9 @@ class Runs:
                 pieces += show_parts(parts, words, names)
         return pieces
 
+    def usage(self):
+        return [f"[{' '.join(usage_of(parts))}] .." for parts in self.lists.values()]
+
 
 def read_parts(parts, tokens, names):
     return [word for part in parts for word in part.read(tokens, names)]
@@ -436,6 +494,18 @@ def read_parts(parts, tokens, names):
 
 def show_parts(parts, words, names):
     return [piece for part in parts for piece in part.show(words, names)]
+
+
+def usage_of(parts):
+    return [piece for part in parts for piece in part.usage()]
+
+
+def spaced_field(pieces):
+    """The error of a field with spaces around its =, as in `elevation = 100`; None where no piece looks like that."""
+    told = re.search(r"(\S*)(?: =|= )\s*(\S*)", " ".join(pieces))
+    if not told:
+        return None
+    return TextError(f"there are spaces around the = of {told[1]}", f"{told[1]}={told[2]}")
 
 
 # --- The table ---
@@ -451,13 +521,30 @@ class Form:
     tables: tuple = ()  # those in which the record is an entry and its name is known
     letters: str = ""  # what `show` puts in front of the index to make a name
 
+    def name(self, tokens):
+        """The name that the line gives the record, or None."""
+        return tokens.name(numbers_follow=isinstance(self.parts[0], Rest)) if self.tables else None
+
     def read(self, tokens, names):
         """The payload that the line says."""
-        if self.tables:
-            tokens.name()
-        payload = read_parts(self.parts, tokens, names)
-        tokens.end()
+        pieces = list(tokens.left)
+        try:
+            self.name(tokens)
+            payload = read_parts(self.parts, tokens, names)
+            tokens.end()
+        except TextError as error:
+            error.expected = error.expected or self.usage()
+            spaced = spaced_field(pieces) if self.has_fields() else None
+            raise spaced or error
         return payload
+
+    def has_fields(self):
+        """Whether an = in the line can only be a field's: a premise has it for a comparison."""
+        return "=" in self.usage()
+
+    def usage(self):
+        name = ["[NAME]"] if self.tables else []
+        return " ".join([self.keyword, *name, *usage_of(self.parts)])
 
     def show(self, payload, names, name):
         """The line that says the payload; Unfit where this form has none."""
@@ -475,19 +562,21 @@ PATTERN = IndexOrNone("pattern")
 NODE = Index("node")
 LINK = Index("link")
 STATUS = Code(
-    *["Xhead", "TempClosed", "Closed", "Open", "Active", "Xflow", "XFCV", "XPressure", "FixedOpen", "FixedClosed"]
+    *["Xhead", "TempClosed", "Closed", "Open", "Active", "Xflow", "XFCV", "XPressure", "FixedOpen", "FixedClosed"],
+    what="status",
 )
 
-CONDITIONS = Code("high_pressure", "low_pressure", "high_level", "low_level", "time", "clock")
+CONDITIONS = Code("high_pressure", "low_pressure", "high_level", "low_level", "time", "clock", what="condition")
 ATTRIBUTES = Code(
     *["node.demand", "node.head", "node.pressure"],
     *["tank.level", "tank.fill_time", "tank.drain_time"],
     *["link.flow", "link.status", "link.setting"],
     *["system.demand", "system.time", "system.clock_time"],
+    what="attribute",
 )
-OPERATORS = Code("or", "and")
-COMPARISONS = Code("=", "<>", ">", "<", ">=", "<=")
-VALUE_SORTS = Code("number", "status", "time")
+OPERATORS = Code("or", "and", what="operator")
+COMPARISONS = Code("=", "<>", ">", "<", ">=", "<=", what="comparison")
+VALUE_SORTS = Code("number", "status", "time", what="value's sort", then=", then the value, as in `number 10.0`")
 OPTION_FLAGS, OVERFLOW, DISABLED = Flags("skip", "PDA"), Flags("overflow"), Flags("disabled")
 
 START, END = Field("start", NODE), Field("end", NODE)
@@ -603,5 +692,5 @@ def tables_of(kind):
 def header(kind, payload):
     """The header of a record with this payload."""
     if len(payload) > 0xFFFF:
-        raise TextError(f"a payload of {len(payload)} words is too long for a header")
+        raise TextError(f"a payload of {len(payload)} words is too long for a header", f"at most {0xFFFF}")
     return kind << 28 | len(payload)

@@ -11,7 +11,7 @@ WORDS_A_LINE = 8
 @dataclasses.dataclass
 class Shown:
     lines: list
-    faults: list  # what is wrong with the file, in words
+    fault: object  # what is wrong with the file, or None
 
 
 def word_text(word):
@@ -87,15 +87,15 @@ def shown_load(words, names):
 
 
 def shown_loads(words, project, names):
-    """The lines of the loads up to the first fault, raw lines from there on, and the fault."""
+    """The lines of the loads up to the first fault, raw lines from there on."""
     lines, at, size = [], 0, image_decode.load_size(project)
     while at < len(words):
         load = words[at : at + 1 + size]
-        if fault := image_decode.judge_load(project, load, len(lines) + 1, names):
-            return lines + raw_lines(words[at:]), [str(fault)]
+        if image_decode.judge_load(project, load):
+            return lines + raw_lines(words[at:])
         lines.append(shown_load(load, names))
         at += len(load)
-    return lines, []
+    return lines
 
 
 def split_words(data):
@@ -104,45 +104,34 @@ def split_words(data):
     return list(struct.unpack_from(f"<{count}I", data)), data[4 * count :]
 
 
-def shown_judged(words):
-    """An image's text, what it decodes to, and the names."""
-    project = image_decode.decode(words)
-    lines, names = shown_image(words, project.read)
-    return Shown(lines, [str(project.fault)] if project.fault else []), project, names
-
-
 def show(data):
-    """An image's file as text."""
+    """An image's file as text: the words alone."""
     words, tail = split_words(data)
-    shown, _, _ = shown_judged(words)
-    return with_tail(shown, tail)
+    project = image_decode.decode(words)
+    lines, _ = shown_image(words, project.read)
+    left = f"{len(tail)} bytes are left after the last word" if tail else None
+    return Shown(lines + tail_lines(tail), project.fault or left)
 
 
 def show_input(data):
     """The driver's input as text: the count, the image, loads."""
     words, tail = split_words(data)
+    return Shown(input_lines(words) + tail_lines(tail), image_decode.judge(data))
+
+
+def input_lines(words):
     if not words:
-        raise TextError("the count is cut short")
+        return []
     count, words = words[0], words[1:]
     if count > len(words):
-        fault = str(image_decode.count_fault(data))
-        return with_tail(Shown([f"count {count}"] + raw_lines(words), [fault]), tail)
-    shown, project, names = shown_judged(words[:count])
-    return with_tail(with_loads(shown, words[count:], project, names), tail)
+        return [f"count {count}"] + raw_lines(words)
+    project = image_decode.decode(words[:count])
+    lines, names = shown_image(words[:count], project.read)
+    loads = words[count:]
+    if loads:
+        lines += ["loads"] + (raw_lines(loads) if project.fault else shown_loads(loads, project, names))
+    return lines
 
 
-def with_loads(shown, words, project, names):
-    if not words:
-        return shown
-    if project.fault:
-        lines, faults = raw_lines(words), []
-    else:
-        lines, faults = shown_loads(words, project, names)
-    return Shown(shown.lines + ["loads"] + lines, shown.faults + faults)
-
-
-def with_tail(shown, tail):
-    if not tail:
-        return shown
-    line, fault = "bytes " + tail.hex(" "), f"{len(tail)} stray bytes after the last word"
-    return Shown(shown.lines + [line], shown.faults + [fault])
+def tail_lines(tail):
+    return ["bytes " + tail.hex(" ")] if tail else []

@@ -11,10 +11,13 @@ Beside the records a text may have
 """
 import contextlib
 import dataclasses
+import re
 import struct
 
 from image_format import FIELD, FORMS, LOAD, NUMBER, Names, TextError, Tokens
-from image_format import form_of, header, tables_of, word_of
+from image_format import form_of, header, in_front, spaced_field, tables_of, word_of
+
+LOAD_USAGE = "load flow .. head .., with a number for every link and then for every junction"
 
 
 @dataclasses.dataclass
@@ -31,6 +34,7 @@ class Assembly:
     image: list = dataclasses.field(default_factory=list)
     loads: list = dataclasses.field(default_factory=list)
     tail: bytes = b""  # stray bytes
+    tail_line: int = None
     count: int = None  # the count to write, where it is not the true one
     needs_count: int = None  # the first line that makes sense only behind a count
 
@@ -40,7 +44,7 @@ class Assembly:
     def data(self, counted):
         """The bytes of the file: with the count in front, the driver's input."""
         if self.needs_count and not counted:
-            raise TextError("loads and a count are for the driver's input: assemble with --count", self.needs_count)
+            raise TextError("loads and a count belong to the driver's form", "no --bare", self.needs_count)
         image = self.image_words()
         words = image + [word for _, words in self.loads for word in words]
         if counted:
@@ -48,17 +52,17 @@ class Assembly:
         return struct.pack(f"<{len(words)}I", *words) + self.tail
 
     def line_at(self, place):
-        """The number of the line that says the image word at this place."""
-        for number, words in self.image:
+        """The number of the line that says the word at this place of image and loads, or the bytes behind them."""
+        for number, words in self.image + self.loads:
             place -= len(words)
             if place < 0:
                 return number
-        return None
+        return self.tail_line
 
 
 def lines_of(text):
-    """The lines with something on them; # begins a comment."""
-    for number, line in enumerate(text.splitlines(), 1):
+    """The lines with something on them; # begins a comment. A byte order mark in front is no part of the text."""
+    for number, line in enumerate(re.split(r"\r\n|\r|\n", text.removeprefix("\ufeff")), 1):
         pieces = line.split("#", 1)[0].split()
         if pieces:
             yield Line(number, pieces[0], pieces[1:])
@@ -95,17 +99,17 @@ def declared_names(lines):
                 kind, _ = raw_record(line.pieces)
                 names.declare(tables_of(kind), None)
             elif form := form_of(line.keyword):
-                names.declare(form.tables, Tokens(line.pieces).name())
+                names.declare(form.tables, form.name(Tokens(line.pieces)))
     return names
 
 
 def raw_record(pieces):
     """The kind and the payload of a raw line."""
     if not pieces:
-        raise TextError("the kind is missing")
+        raise TextError("the kind is missing", "raw KIND WORD ..")
     kind, *payload = map(word_of, pieces)
     if kind > 15:
-        raise TextError(f"kind {kind} does not fit the 4 bits of a header")
+        raise TextError(f"kind {kind} does not fit the 4 bits of a header", "0 to 15")
     return kind, payload
 
 
@@ -119,7 +123,7 @@ def record_words(line, names):
         form = form_of(line.keyword)
         if form is None:
             known = " ".join(form.keyword for form in FORMS)
-            raise TextError(f"{line.keyword} is no record: there are {known} raw words")
+            raise TextError(f"{line.keyword} is no record", f"one of {known} raw words, or of loads count bytes")
         kind, payload = form.kind, form.read(Tokens(line.pieces), names)
     return [header(kind, payload)] + payload
 
@@ -129,7 +133,7 @@ def load_words(pieces, names):
     at_head = pieces.index("head") if "head" in pieces else len(pieces)
     flows, heads = pieces[:at_head], pieces[at_head + 1 :]
     if flows and flows.pop(0) != "flow":
-        raise TextError("a load has the word flow and the flows, then the word head and the heads")
+        raise TextError(f"{pieces[0]} is not the word flow", LOAD_USAGE)
     payload = load_values(flows, "link", names) + load_values(heads, "junction", names)
     return [header(LOAD, payload)] + payload
 
@@ -137,10 +141,13 @@ def load_words(pieces, names):
 def load_values(pieces, table, names):
     """The words of the values: as many plain numbers as there are, or one for every name of the table."""
     named = [FIELD.fullmatch(piece) for piece in pieces]
+    if spaced := spaced_field(pieces):
+        raise spaced
     if not any(named):
         return [word for piece in pieces for word in NUMBER.read(piece, names)]
     if not all(named):
-        raise TextError(f"the values of a load are plain or named, not both: {' '.join(pieces)}")
+        plain = pieces[named.index(None)]
+        raise TextError(f"{plain} has no {table} in front", "the values of a load all plain or all NAME=number")
     return named_values([match.groups() for match in named], table, names)
 
 
@@ -149,26 +156,27 @@ def named_values(pairs, table, names):
     for name, text in pairs:
         index = names.index(table, name)
         if index in values:
-            raise TextError(f"{table} {name} stands there twice")
-        values[index] = NUMBER.read(text, names)
+            raise TextError(f"{table} {name} stands there twice", f"every {table} once")
+        with in_front(f"{name}="):
+            values[index] = NUMBER.read(text, names)
     for index, name in enumerate(names.tables[table]):
         if index not in values:
-            raise TextError(f"{table} {name or index} is missing; every {table} has a value in a load")
+            raise TextError(f"{table} {name or index} is missing", f"a value for every {table}")
     return [word for index in sorted(values) for word in values[index]]
 
 
 def stray_bytes(pieces):
     if not 1 <= len(pieces) <= 3:
-        raise TextError("one to three bytes may stand after the last word")
-    try:
-        return bytes(int(piece, 16) for piece in pieces)
-    except ValueError:
-        raise TextError("a byte is two hex digits") from None
+        raise TextError(f"{len(pieces)} bytes cannot stand after the last word", "one to three")
+    for piece in pieces:
+        if not re.fullmatch("[0-9a-fA-F]{2}", piece):
+            raise TextError(f"{piece} is no byte", "two hex digits")
+    return bytes(int(piece, 16) for piece in pieces)
 
 
 def only_word(pieces):
     if len(pieces) != 1:
-        raise TextError("one count is to stand here")
+        raise TextError(f"{len(pieces)} words behind `count`", "one")
     return word_of(pieces[0])
 
 
@@ -185,11 +193,11 @@ def assemble(text):
             if line.keyword == "loads":
                 Tokens(line.pieces).end()
                 if place > end:
-                    raise TextError("the loads have begun already")
+                    raise TextError("the loads have begun already", "one line `loads`")
             elif line.keyword == "bytes":
                 if line is not lines[-1]:
-                    raise TextError("stray bytes are the last line of a text")
-                assembly.tail = stray_bytes(line.pieces)
+                    raise TextError("stray bytes in front of other lines", "them on the last line")
+                assembly.tail, assembly.tail_line = stray_bytes(line.pieces), line.number
             elif place < end:
                 assemble_image_line(assembly, line, names)
             else:
@@ -201,7 +209,7 @@ def assemble_image_line(assembly, line, names):
     if line.keyword == "count":
         assembly.count = only_word(line.pieces)
     elif line.keyword == "load":
-        raise TextError("a load stands after the line `loads`")
+        raise TextError("a load in the image", "the line `loads` in front of the loads")
     else:
         assembly.image.append((line.number, record_words(line, names)))
 
@@ -212,5 +220,5 @@ def assemble_load_line(assembly, line, names):
     elif line.keyword in ("raw", "words"):
         words = record_words(line, names)
     else:
-        raise TextError(f"{line.keyword} belongs to the image, in front of the line `loads`")
+        raise TextError(f"{line.keyword} behind the line `loads`", LOAD_USAGE)
     assembly.loads.append((line.number, words))

@@ -38,14 +38,17 @@ def said(words, names=None):
 
 
 class Faults(unittest.TestCase):
-    # The good image of the batch: options, pat0, pat1, reservoir R0, tank T1, junctions J2 and J3, pipe0, pump1, valve2,
-    # 6 controls, 3 premises.
+    # The good image of the batch: options, pat0, pat1, reservoir R0, tank T1, junctions J2 and J3, pipe0, pump1,
+    # valve2, 6 controls, 3 premises.
     CASES = [
         ([], "1: no words, and an image has at least one"),
         ([0] * 16_385, "1: 16,385 words, and an image has at most 16,384"),
         # Number 2
         (image() + [9 << 28], "2: record 20: kind 9 is none of 1 to 8"),
-        (image() + [15 << 28], "2: record 20: kind 15 is none of 1 to 8: loads stand behind the image, where its count ends"),
+        (
+            image() + [15 << 28],
+            "2: record 20: kind 15 is none of 1 to 8: loads stand behind the image, where its count ends",
+        ),
         (image(tank=images.with_bit(TANK, 16)), "2: record 5, tank T1: header 0x4001000b: bits 16 to 27 must be 0"),
         (TANK, "2: record 1, tank T0: tank as the first record: options are missing, which stand first"),
         (image(pattern_0=images.options()), "2: record 2, options: a second options record"),
@@ -63,9 +66,15 @@ class Faults(unittest.TestCase):
         # Numbers 3 and 4
         (images.options()[:-1], "3: record 1, options: payload of 10 words, and the image has only 9 left"),
         (image(tank=TANK * 254), "4: record 260, junction J256: one too many: an image has at most 256 nodes"),
-        (image(valve=images.valve() * 383), "4: record 392, valve valve384: one too many: an image has at most 384 links"),
+        (
+            image(valve=images.valve() * 383),
+            "4: record 392, valve valve384: one too many: an image has at most 384 links",
+        ),
         # Number 5: ranges
-        (options(pattern_timestep=0), "5: record 1, options, word 4: pattern timestep 0 is not within 1 to 315,360,000"),
+        (
+            options(pattern_timestep=0),
+            "5: record 1, options, word 4: pattern timestep 0 is not within 1 to 315,360,000",
+        ),
         (options(start_clock=86_400), "5: record 1, options, word 6: start clock 86400 is not within 0 to 86,399"),
         (
             options(demand_multiplier=NAN),
@@ -123,11 +132,13 @@ class Faults(unittest.TestCase):
         # Number 6
         (
             image(pump=images.pump(start=7)),
-            "6: record 9, pump pump1, word 1: start node 7: only 4 nodes are declared before it, and indices count from 0",
+            "6: record 9, pump pump1, word 1: start node 7: "
+            "only 4 nodes are declared before it, and indices count from 0",
         ),
         (
             image(reservoir=images.reservoir(head_pattern=3)),
-            "6: record 4, reservoir R0, word 3: head pattern word 3 means index 2: only 2 patterns are declared before it",
+            "6: record 4, reservoir R0, word 3: head pattern word 3 means index 2: "
+            "only 2 patterns are declared before it",
         ),
         (
             options(default_pattern=3),
@@ -232,7 +243,10 @@ class Inputs(unittest.TestCase):
             (self.GOOD[:-1], "the load is cut: 5 of its 6 payload words"),
             (self.GOOD[:second] + bytes(28), "kind 0, a load has kind 15"),
             (self.GOOD[:second] + struct.pack("<I", 0xF0010006), "header 0xf0010006: bits 16 to 27 must be 0"),
-            (self.GOOD[:second] + struct.pack("<I", 0xF0000004), "payload of 4 words, a load of this image has 6: flows 2, heads 1"),
+            (
+                self.GOOD[:second] + struct.pack("<I", 0xF0000004),
+                "payload of 4 words, a load of this image has 6: flows 2, heads 1",
+            ),
         ):
             decoded = image_decode.decode_input(data)
             self.assertEqual(str(decoded.fault), f"refused 7: load 2: {text}")

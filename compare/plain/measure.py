@@ -23,7 +23,7 @@ from pathlib import Path
 
 from check import HERE, STOCK, build
 
-ASSEMBLE = [HERE.parent.parent / "tools" / "image", "assemble", "--count", "--check", "-"]
+IMAGE_TOOL = HERE.parent.parent / "tools" / "image"
 WORKS = ("ravensdale", "thornmoor")
 LARGEST = "thornmoor"
 HOURS_OF_YEAR = 8760
@@ -72,7 +72,9 @@ def long_run(years):
     changed, places = re.subn(r"(?m)^(options .*\bduration=)\S+", rf"\g<1>{years * HOURS_OF_YEAR}:00:00", text)
     if places != 1:
         sys.exit(f"no single duration in {LARGEST}.txt")
-    return subprocess.run(ASSEMBLE, input=changed.encode(), capture_output=True, check=True).stdout
+    for command in ("check", "assemble"):
+        done = run([IMAGE_TOOL, command, "-"], changed.encode())
+    return done.stdout
 
 
 def steps_of(programs, image):

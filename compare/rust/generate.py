@@ -5,14 +5,20 @@
                 --sweep NUMBER [--out FILE] [--text]
 
 A sweep's images are not random: they try each field's limits, each header and each table's end one by one.
+With --text the image and its loads are written as the text of tools/image; why the input is refused stands in front,
+and the calls of a replay behind it, as comments.
 """
 
 import argparse
 import math
 import sys
 from dataclasses import dataclass
+from pathlib import Path
+
+sys.path.insert(0, str(Path(__file__).resolve().parents[2] / "tools"))
 
 import damage
+import image_show
 import limits
 from image import *
 from steps import Levels, advance, put_load, starting_levels, time_to_reach
@@ -637,16 +643,19 @@ CASES = {
 }
 
 
+def driven(case):
+    """A case's input as the driver would read it: without the calls of a replay."""
+    if isinstance(case, Replay):
+        return Image(case.project.words(), mode=DRIVER).input()
+    return Image(case.words, case.count, DRIVER).input() if isinstance(case, Image) else case.input()
+
+
 def text_of(case):
-    """A case for people."""
-    if isinstance(case, Image):
-        lines = [" ".join(f"{word:08x}" for word in words) for words in split_records(case.words)]
-        return "\n".join([f"count {len(case.words) if case.count is None else case.count}"] + lines)
-    lines = [describe(item) for item in case.project.records()]
-    lines += [describe(item) for item in (case.calls if isinstance(case, Replay) else case.loads)]
-    if isinstance(case, Drive) and case.tail:
-        lines.append(f"and {len(case.tail)} bytes")
-    return "\n".join(lines)
+    """A case for people: the text of its image and loads; the first fault and the calls are comments."""
+    shown_input = image_show.show_input(driven(case))
+    fault = [f"# {shown_input.fault}"] if shown_input.fault else []
+    calls = [f"# {describe(call)}" for call in case.calls] if isinstance(case, Replay) else []
+    return "\n".join(fault + shown_input.lines + calls)
 
 
 def main():
@@ -655,7 +664,7 @@ def main():
     for kind in CASES:
         kinds.add_argument(f"--{kind}", metavar="NUMBER" if kind == "sweep" else "SEED", type=int)
     parser.add_argument("--out", metavar="FILE", help="write there instead of to standard output")
-    parser.add_argument("--text", action="store_true", help="write the case for people")
+    parser.add_argument("--text", action="store_true", help="write the text of tools/image, a replay's calls as comments")
     arguments = parser.parse_args()
     kind = next(kind for kind in CASES if getattr(arguments, kind) is not None)
     case = CASES[kind](getattr(arguments, kind))

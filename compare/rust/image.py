@@ -295,23 +295,19 @@ def copied(value):
     return copy.deepcopy(value)
 
 
-def describe(value):
-    """A record or call on one line, numbers with their bits where they say more."""
-    if isinstance(value, Load):
-        spoilt = f" header^={value.header_change:#x}" if value.header_change else ""
-        spoilt += f" length{value.length_change:+d}" if value.length_change else ""
-        return f"load flows={shown(value.flows)} heads={shown(value.heads)}{spoilt}"
-    if isinstance(value, Call):
-        if value.code == LOAD_CALL:
-            return describe(value.load)
-        return f"premise {value.premise}" if value.code == PREMISE_CALL else CALL_NAMES[value.code]
-    listed = " ".join(f"{item.name}={shown(getattr(value, item.name))}" for item in fields(value))
-    return f"{type(value).__name__.lower()} {listed}"
+def describe(call):
+    """A call on one line, a load as the text of an image has it and with how it is spoilt."""
+    if call.code == PREMISE_CALL:
+        return f"premise {call.premise}"
+    if call.code != LOAD_CALL:
+        return CALL_NAMES[call.code]
+    load = call.load
+    spoilt = f", header ^ {load.header_change:#x}" if load.header_change else ""
+    spoilt += f", {load.length_change:+d} words" if load.length_change else ""
+    return " ".join(["load flow", *map(shown, load.flows), "head", *map(shown, load.heads)]) + spoilt
 
 
 def shown(value):
     if isinstance(value, (list, tuple)):
         return "[" + ", ".join(shown(item) for item in value) + "]"
-    if isinstance(value, Bits):
-        return f"bits {int(value):#018x}"
-    return repr(value)
+    return f"{int(value):#018x}" if isinstance(value, Bits) else repr(value)

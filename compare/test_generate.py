@@ -1,0 +1,58 @@
+"""Checks of the generated cases' text: python3 -m unittest discover -s compare"""
+import pathlib
+import struct
+import subprocess
+import sys
+import unittest
+
+RUST = pathlib.Path(__file__).resolve().parent / "rust"
+sys.path.insert(0, str(RUST))
+import generate  # noqa: E402
+
+sys.path.insert(0, str(RUST.parent.parent / "tools"))
+import image_text  # noqa: E402
+
+SEEDS = range(1, 9)
+
+
+def assembled(case):
+    return image_text.assemble(generate.text_of(case)).data(counted=True)
+
+
+class Texts(unittest.TestCase):
+    def test_a_drivers_input_comes_back_whole(self):
+        for kind in ("driver", "strain"):
+            for seed in SEEDS:
+                case = generate.CASES[kind](seed)
+                self.assertEqual(assembled(case), case.input(), f"{kind} {seed}")
+
+    def test_the_image_of_a_replay_comes_back_and_its_calls_are_comments(self):
+        for kind in ("replay", "edge", "hours"):
+            for seed in SEEDS:
+                case = generate.CASES[kind](seed)
+                words = case.project.words()
+                self.assertEqual(assembled(case), struct.pack(f"<{1 + len(words)}I", len(words), *words))
+                comments = [line for line in generate.text_of(case).splitlines() if line.startswith("# ")]
+                self.assertEqual(len(comments), len(case.calls), f"{kind} {seed}")
+
+    def test_damaged_images_come_back(self):
+        for kind, numbers in (("image", SEEDS), ("sweep", range(0, 4242, 101)), ("sweep", range(4230, 4242))):
+            for number in numbers:
+                case = generate.CASES[kind](number)
+                count = len(case.words) if case.count is None else case.count
+                data = struct.pack(f"<{1 + len(case.words)}I", count, *case.words)
+                self.assertEqual(assembled(case), data, f"{kind} {number}")
+
+    def test_a_refused_one_says_why_in_front(self):
+        texts = [generate.text_of(generate.CASES["image"](seed)) for seed in SEEDS]
+        self.assertTrue(any(text.startswith("# refused ") for text in texts))
+
+    def test_the_command(self):
+        command = [sys.executable, RUST / "generate.py", "--driver", "3"]
+        text = subprocess.run([*command, "--text"], capture_output=True, check=True).stdout.decode()
+        data = subprocess.run(command, capture_output=True, check=True).stdout
+        self.assertEqual(image_text.assemble(text).data(counted=True), data)
+
+
+if __name__ == "__main__":
+    unittest.main()
