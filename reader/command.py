@@ -22,7 +22,7 @@ USAGE = """\
   NAME                 a works of the stock; netherbeck if nothing is named
   FILE                 an image as the driver reads it: the count of words, the words, then loads
   FILE.txt             a text in the form of tools/README.md, with the loads of FILE.loads if that stands beside it
-  -                    an image on standard input
+  -                    standard input: an image, or a text, which has no byte 0
 
   --times              the listing with a title, and for each step the day and the times of day
   --events             in place of the listing what happens, a line for each time: elapsed h:mm:ss, and the day and the

@@ -106,6 +106,8 @@ class Listings(Copied):
     def test_standard_input_and_a_pipe(self):
         image = (STOCK / "withycombe.image").read_bytes()
         self.assertEqual(self.run_it("-", stdin=image).stdout, listing("withycombe"))
+        text = (STOCK / "coldash.txt").read_bytes()
+        self.assertEqual(self.run_it("-", stdin=text).stdout, listing("coldash"))
         shell = f"'{self.root / 'run'}' <(cat '{STOCK / 'withycombe.image'}')"
         done = subprocess.run(["bash", "-c", shell], capture_output=True, text=True, env=self.environment())
         self.assertEqual(done.stdout, listing("withycombe"))
@@ -151,10 +153,6 @@ class Listings(Copied):
 
 class Wrong(Copied):
     def test_what_is_wrong_with_the_words(self):
-        bad = self.place / "bad.txt"
-        bad.write_text("options duration=10 hydraulic=5 report=5 pattern_timestep=5\ntank T elevation=high\n")
-        (self.place / "late.txt").write_text((STOCK / "netherbeck.txt").read_text())
-        (self.place / "late.loads").write_text("\nloads\nload flow 1.0 head x\n")
         for arguments, message in (
             (["--wrong"], "run: there is no option --wrong; ./run --help has the forms"),
             (["coldash", "blank"], "run: one works at a time, and blank is one more than coldash; ./run --help has the forms"),
@@ -166,12 +164,26 @@ class Wrong(Copied):
                 "run: --picture needs a file whose name ends in .svg, not coldash; ./run --help has the forms",
             ),
             (["nosuch"], "run: nosuch is no works of the stock and no file; ./run --list has the stock"),
-            (["bad.txt"], "run: bad.txt:2: high is no number"),
-            (["late.txt"], "run: late.loads:3: x is no number"),
             (["a root"], "run: a root: Is a directory"),
         ):
             done = self.run_it(*arguments)
             self.assertEqual((done.returncode, done.stdout, done.stderr), (2, "", message + "\n"))
+
+    def test_what_is_wrong_with_a_text(self):
+        bad = "options duration=10 hydraulic=5 report=5 pattern_timestep=5\ntank T elevation=high\n"
+        (self.place / "bad.txt").write_text(bad)
+        (self.place / "late.txt").write_text((STOCK / "netherbeck.txt").read_text())
+        (self.place / "late.loads").write_text("\nloads\nload flow 1.0 head x\n")
+        (self.place / "latin.txt").write_bytes(b"# \xe9\n")
+        for name, message in (
+            ("bad.txt", "run: bad.txt:2: .*high is no number"),
+            ("late.txt", "run: late.loads:3: .*x is no number"),
+            ("latin.txt", "run: latin.txt is no text in UTF-8"),
+            ("-", "run: standard input:2: .*high is no number"),
+        ):
+            done = self.run_it(name, stdin=bad.encode())
+            self.assertEqual((done.returncode, done.stdout), (2, ""))
+            self.assertRegex(done.stderr, f"^{message}")
 
     def test_a_refused_image_explains_itself(self):
         for arguments in (["blank"], ["--times", "blank"], ["blank", "--events", "--picture", "x.svg"]):
@@ -198,7 +210,7 @@ class Wrong(Copied):
             self.assertIn(f"flow nan of pipe {name} is", self.said("f.image")[0])
 
     def test_a_refused_count_explains_itself(self):
-        done = self.run_it("-", stdin=b"abc")
+        done = self.run_it("-", stdin=b"\0bc")
         self.assertEqual((done.returncode, done.stdout), (1, "refused 1\n"))
         self.assertIn("refused 1: 3 bytes, and the count of words alone takes 4\n", done.stderr)
 

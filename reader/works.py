@@ -1,6 +1,7 @@
 """The works that is asked for: the driver's input, a title, and the names that its text gives."""
 
 import pathlib
+import re
 import struct
 import sys
 from dataclasses import dataclass
@@ -48,13 +49,17 @@ def stock():
 def find(asked):
     """The works by its name in the stock, its file, or - for standard input."""
     if asked == "-":
-        return Works("standard input", sys.stdin.buffer.read())
-    if asked in stock():
-        return of_image(stock()[asked].with_suffix(".image"))
-    path = pathlib.Path(asked)
+        return of_file(pathlib.Path("standard input"), sys.stdin.buffer.read())
+    path = stock()[asked].with_suffix(".image") if asked in stock() else pathlib.Path(asked)
     if not path.exists():
         raise Failure(f"{asked} is no works of the stock and no file; ./run --list has the stock")
-    return of_text(path) if path.suffix == ".txt" else of_image(path)
+    return of_file(path, read(path))
+
+
+def of_file(path, data):
+    """An accepted image has a byte 0 in its count, and a text has none."""
+    is_text = path.suffix == ".txt" or (data and b"\0" not in data)
+    return of_text(path, data) if is_text else of_image(path, data)
 
 
 def read(path):
@@ -64,33 +69,39 @@ def read(path):
         raise Failure(f"{path}: {error.strerror}") from None
 
 
-def read_text(path):
+def decoded(path, data):
     try:
-        return read(path).decode("utf-8")
+        return data.decode("utf-8")
     except UnicodeDecodeError:
         raise Failure(f"{path} is no text in UTF-8") from None
 
 
-def of_image(path):
-    data, beside = read(path), path.with_suffix(".txt")
-    text = read_text(beside) if path.suffix == ".image" and beside.is_file() else ""
+def of_image(path, data):
+    """An image, with the text beside it, which is not needed and may be wrong."""
+    beside = path.with_suffix(".txt")
+    text = read(beside).decode("utf-8", "replace") if path.suffix == ".image" and beside.is_file() else ""
     return Works(title_of(text) or str(path), data, text)
 
 
-def of_text(path):
+def of_text(path, data):
     """A text, with the loads of the file beside it behind its own lines."""
-    own, beside = read_text(path), path.with_suffix(".loads")
-    lines = own.splitlines()
-    text = "\n".join(lines + (read_text(beside).splitlines() if beside.is_file() else []) + [""])
+    own, beside = decoded(path, data), path.with_suffix(".loads")
+    text = own
+    if path.suffix == ".txt" and beside.is_file():
+        text = f"{own}\n{decoded(beside, read(beside))}"
     try:
         data = image_text.assemble(text).data(counted=True)
     except TextError as error:
-        if error.line is None:
-            raise Failure(f"{path}: {error.message}") from None
-        if error.line <= len(lines):
-            raise Failure(f"{path}:{error.line}: {error.message}") from None
-        raise Failure(f"{beside}:{error.line - len(lines)}: {error.message}") from None
+        raise Failure(f"{place(path, own, error.line)}: {error.message}") from None
     return Works(title_of(own) or str(path), data, own)
+
+
+def place(path, own, line):
+    """Where a line of a text is, which may be one of the loads beside it."""
+    lines = len(re.split(r"\r\n|\r|\n", own))
+    if line is None or line <= lines:
+        return path if line is None else f"{path}:{line}"
+    return f"{path.with_suffix('.loads')}:{line - lines}"
 
 
 def start_clock(data):
