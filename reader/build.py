@@ -98,9 +98,8 @@ def lines_of(pipe):
 
 def follow(command, root, log, progress):
     """Runs rt to its end, keeps what it says in the log, and answers its status."""
-    process = subprocess.Popen(
-        command, cwd=root, stdin=subprocess.DEVNULL, stdout=subprocess.PIPE, stderr=subprocess.STDOUT, start_new_session=True
-    )
+    pipes = {"stdin": subprocess.DEVNULL, "stdout": subprocess.PIPE, "stderr": subprocess.STDOUT}
+    process = subprocess.Popen(command, cwd=root, **pipes, start_new_session=True)
     try:
         with process.stdout:
             for line in lines_of(process.stdout):

@@ -124,8 +124,8 @@ class Events:
         elif old != new:
             told.append(f"goes from {STATUS.names[old]} to {STATUS.names[new]}")
         if before.settings[link] != after.settings[link]:
-            setting = f"{after.settings[link]:g}"
-            told.append(f"runs at speed {setting}" if self.network.link_sort(link) == "pump" else f"is set to {setting}")
+            verb = "runs at speed" if self.network.link_sort(link) == "pump" else "is set to"
+            told.append(f"{verb} {after.settings[link]:g}")
         return " and ".join(told)
 
     # --- tanks ---
@@ -138,7 +138,7 @@ class Events:
             yield f"{self.network.link_name(link)} {self.change(link, turn.loaded, turn.closed)}: {why}"
 
     def arrivals(self, turn, moment):
-        """The tanks that a step brings to a limit; those at the level of a control are kept until it has had its turn."""
+        """The tanks that a step brings to a limit. Those at a control's level wait until it has had its turn."""
         for tank in self.network.tanks:
             name, level = self.network.node_name(tank), self.network.level(turn.stepped, tank)
             for limit, target in self.network.limits(tank).items():

@@ -165,7 +165,8 @@ class Picture:
     def draw_steps(self):
         top = self.y + ROW - BAR
         self.name("steps", top + BAR - 1)
-        self.parts += [line("step", self.x(instant), top, self.x(instant), top + BAR) for instant in self.timeline.steps]
+        for x in map(self.x, self.timeline.steps):
+            self.parts.append(line("step", x, top, x, top + BAR))
         self.y += ROW + 6
 
     def draw_refusal(self):

@@ -4,7 +4,6 @@ It runs in a copy of its own, with a stand-in for rt that builds stand-ins for t
 listings of the stock, and a replay that knows what the proved one prints for two of its works.
 """
 
-import os
 import pathlib
 import shutil
 import signal
@@ -95,7 +94,8 @@ class Copied(unittest.TestCase):
 
 class Listings(Copied):
     def test_a_works_is_netherbeck_another_or_a_file(self):
-        for arguments, name in (([], "netherbeck"), (["coldash"], "coldash"), ([STOCK / "ravensdale.image"], "ravensdale")):
+        named = [([], "netherbeck"), (["coldash"], "coldash"), ([STOCK / "ravensdale.image"], "ravensdale")]
+        for arguments, name in named:
             done = self.run_it(*arguments)
             self.assertEqual((done.returncode, done.stdout), (0, listing(name)))
 
@@ -153,21 +153,19 @@ class Listings(Copied):
 
 class Wrong(Copied):
     def test_what_is_wrong_with_the_words(self):
+        see = "; ./run --help has the forms"
         for arguments, message in (
-            (["--wrong"], "run: there is no option --wrong; ./run --help has the forms"),
-            (["coldash", "blank"], "run: one works at a time, and blank is one more than coldash; ./run --help has the forms"),
-            (["--list", "blank"], "run: --list is of the whole stock, and blank is one word more; ./run --help has the forms"),
-            (["--times", "--events"], "run: --times and --events are two answers: ask for one; ./run --help has the forms"),
-            (["--picture"], "run: --picture needs a file whose name ends in .svg; ./run --help has the forms"),
-            (
-                ["--picture", "coldash"],
-                "run: --picture needs a file whose name ends in .svg, not coldash; ./run --help has the forms",
-            ),
-            (["nosuch"], "run: nosuch is no works of the stock and no file; ./run --list has the stock"),
-            (["a root"], "run: a root: Is a directory"),
+            (["--wrong"], f"there is no option --wrong{see}"),
+            (["coldash", "blank"], f"one works at a time, and blank is one more than coldash{see}"),
+            (["--list", "blank"], f"--list is of the whole stock, and blank is one word more{see}"),
+            (["--times", "--events"], f"--times and --events are two answers: ask for one{see}"),
+            (["--picture"], f"--picture needs a file whose name ends in .svg{see}"),
+            (["--picture", "coldash"], f"--picture needs a file whose name ends in .svg, not coldash{see}"),
+            (["nosuch"], "nosuch is no works of the stock and no file; ./run --list has the stock"),
+            (["a root"], "a root: Is a directory"),
         ):
             done = self.run_it(*arguments)
-            self.assertEqual((done.returncode, done.stdout, done.stderr), (2, "", message + "\n"))
+            self.assertEqual((done.returncode, done.stdout, done.stderr), (2, "", f"run: {message}\n"))
 
     def test_what_is_wrong_with_a_text(self):
         bad = "options duration=10 hydraulic=5 report=5 pattern_timestep=5\ntank T elevation=high\n"
@@ -224,7 +222,8 @@ class Wrong(Copied):
         for arguments in ([], ["--times"], ["--events"]):
             done = self.run_it(*arguments, DRIVER_DIES=str(int(signal.SIGSEGV)))
             self.assertEqual(done.returncode, 3)
-            self.assertIn("run: the program driver was ended by signal 11, Segmentation fault, after 2 lines\n", done.stderr)
+            message = "run: the program driver was ended by signal 11, Segmentation fault, after 2 lines"
+            self.assertEqual(done.stderr.splitlines()[-1], message)
 
     def test_a_listing_that_does_not_end_is_told(self):
         (self.root / "bin" / "driver").write_text("#!/bin/sh\ncat >/dev/null\nprintf 'from length\\n0 3600\\n'\n")
@@ -300,11 +299,13 @@ class Runs(Copied):
 
     def test_a_picture_that_cannot_be_written(self):
         done = self.run_it("--picture", "no/such.svg")
-        self.assertEqual((done.returncode, done.stderr.splitlines()[-1]), (2, "run: no/such.svg: No such file or directory"))
+        message = "run: no/such.svg: No such file or directory"
+        self.assertEqual((done.returncode, done.stderr.splitlines()[-1]), (2, message))
 
     def test_a_replay_that_parts_from_the_driver_is_told(self):
         replay = self.root / "bin" / "replay"
-        replay.write_text(replay.read_text().replace("lines.read_text()", "lines.read_text().replace('step 2753', 'step 2752')"))
+        told = "lines.read_text()"
+        replay.write_text(replay.read_text().replace(told, f"{told}.replace('step 2753', 'step 2752')"))
         done = self.run_it("--events")
         self.assertEqual(done.returncode, 3)
         self.assertEqual(done.stderr.splitlines()[-1], "run: driver and replay part at 10800: steps of 2753 and 2752 s")

@@ -36,12 +36,16 @@ control time seconds=1:00:00 link=GATE status=Active
 
 
 def network(text=WORKS, named=True):
-    return Network(image_decode.decode(image_text.assemble(text).image_words()), image_text.names_of(text) if named else None)
+    tables = image_decode.decode(image_text.assemble(text).image_words())
+    return Network(tables, image_text.names_of(text) if named else None)
 
 
-def state(instant=0, levels=(5.0, 2.0), demands=(0.0, 0.0), flows=(0.0, 0.0, 0.0), statuses=(CLOSED, ACTIVE, OPEN), lift=1.0, gate=30.0):
+def state(instant=0, levels=(5.0, 2.0), demands=(0.0, 0.0), flows=(0.0, 0.0, 0.0), lift=CLOSED, **more):
+    """A state of the works: levels and net inflows of its tanks, flows of its links, and how they stand."""
     heads = (100.0 + levels[0], 50.0 + levels[1], 60.0)
-    return State(instant, heads, (*demands, 0.0), flows, statuses, (lift, gate, 0.0))
+    statuses = (lift, more.get("gate", ACTIVE), more.get("main", OPEN))
+    settings = (more.get("speed", 1.0), more.get("setting", 30.0), 0.0)
+    return State(instant, heads, (*demands, 0.0), flows, statuses, settings)
 
 
 def turn(before, after, controlled=None, closed=None, loaded=None):
@@ -64,34 +68,34 @@ class Told(unittest.TestCase):
 
     def test_a_control_that_opens(self):
         low = state(3600, (2.9999, 2.0), demands=(-1.0, 1.0))
-        lines = self.told(turn(low, state(7200, (2.5, 2.0)), controlled=state(3600, (2.9999, 2.0), statuses=(OPEN, ACTIVE, OPEN))))
+        lines = self.told(turn(low, state(7200, (2.5, 2.0)), controlled=state(3600, (2.9999, 2.0), lift=OPEN)))
         self.assertEqual(lines[0], "LIFT opens (control 1: HILL at or below 3.00 ft); HILL 3.00 ft, falling")
 
     def test_made_names(self):
         low = state(3600, (2.0, 2.0), demands=(1.0, 0.0))
-        lines = self.told(turn(low, state(7200), controlled=state(3600, (2.0, 2.0), statuses=(OPEN, ACTIVE, OPEN))), named=False)
+        lines = self.told(turn(low, state(7200), controlled=state(3600, (2.0, 2.0), lift=OPEN)), named=False)
         self.assertEqual(lines[0], "pump0 opens (control 1: T0 at or below 3.00 ft); T0 2.00 ft, rising")
 
     def test_a_setting_is_the_controls_that_sets_it(self):
         """Control 5 is active too, and changes nothing."""
         now = state(3600)
-        lines = self.told(turn(now, state(7200), controlled=state(3600, lift=0.9, gate=20.0)))
-        speed, gate = "LIFT runs at speed 0.9 (control 3: at 07:00:00)", "GATE is set to 20 (control 4: at 1:00:00 of the run)"
-        self.assertEqual(lines, [f"{speed}; {gate}"])
+        lines = self.told(turn(now, state(7200), controlled=state(3600, speed=0.9, setting=20.0)))
+        speed = "LIFT runs at speed 0.9 (control 3: at 07:00:00)"
+        self.assertEqual(lines, [f"{speed}; GATE is set to 20 (control 4: at 1:00:00 of the run)"])
 
     def test_a_status_that_neither_opens_nor_closes(self):
-        now = state(3600, statuses=(CLOSED, OPEN, OPEN))
+        now = state(3600, gate=OPEN)
         lines = self.told(turn(now, state(7200), controlled=state(3600)))
         self.assertEqual(lines, ["GATE goes from Open to Active (control 5: at 1:00:00 of the run)"])
 
     def test_closing_and_why(self):
-        full = state(3600, (9.0, 2.0), flows=(1.0, 0.0, 0.0), statuses=(OPEN, ACTIVE, OPEN))
-        lines = self.told(turn(full, state(7200, (9.0, 2.0)), closed=state(3600, (9.0, 2.0), statuses=(TEMP_CLOSED, ACTIVE, OPEN))))
+        full = state(3600, (9.0, 2.0), flows=(1.0, 0.0, 0.0), lift=OPEN)
+        lines = self.told(turn(full, state(7200, (9.0, 2.0)), closed=state(3600, (9.0, 2.0), lift=TEMP_CLOSED)))
         self.assertEqual(lines[0], "HILL is full, 9.00 ft; LIFT closes: HILL is full")
 
     def test_a_link_into_an_empty_tank_that_drains_it(self):
         empty = state(3600, (5.0, 0.0), flows=(0.0, 0.0, -1.0))
-        lines = self.told(turn(empty, state(7200), closed=state(3600, (5.0, 0.0), statuses=(CLOSED, ACTIVE, TEMP_CLOSED))))
+        lines = self.told(turn(empty, state(7200), closed=state(3600, (5.0, 0.0), main=TEMP_CLOSED)))
         self.assertEqual(lines[0], "POND is empty, 0.00 ft; MAIN closes: POND is empty")
 
     def test_a_tank_that_overflows_closes_nothing(self):
@@ -101,15 +105,15 @@ class Told(unittest.TestCase):
 
     def test_a_level_just_short_of_a_controls(self):
         short = state(3600, (7.9998, 2.0), demands=(1.0, 0.0))
-        self.assertEqual(
-            self.told(turn(short, state(7200))), ["HILL 0.0002 ft short of 8.00 ft, rising: control 2 is not active yet"]
-        )
+        lines = self.told(turn(short, state(7200)))
+        self.assertEqual(lines, ["HILL 0.0002 ft short of 8.00 ft, rising: control 2 is not active yet"])
 
     def test_a_level_that_passes_or_has_nothing_to_change(self):
         down = state(3600, (8.0, 2.0), demands=(-1.0, 0.0))
         self.assertEqual(self.told(turn(down, state(7200))), ["HILL passes 8.00 ft, falling"])
         up = state(3600, (8.0, 2.0), demands=(1.0, 0.0))
-        self.assertEqual(self.told(turn(up, state(7200))), ["HILL reaches 8.00 ft, rising: control 2 has nothing to change"])
+        lines = self.told(turn(up, state(7200)))
+        self.assertEqual(lines, ["HILL reaches 8.00 ft, rising: control 2 has nothing to change"])
 
     def test_what_stays_is_not_told_again(self):
         full = [state(3600 * hour, (9.0, 2.0)) for hour in (1, 2, 3)]
@@ -119,14 +123,11 @@ class Told(unittest.TestCase):
 class Lines(unittest.TestCase):
     def test_the_start_and_the_end_with_day_and_clock(self):
         events = Events(network(), state(), "")
-        lines = events.take(turn(state(), state(108_000, (4.0, 3.0), (-1.0, 1.0)), closed=state(demands=(1.0, 0.0)))) + events.end()
-        self.assertEqual(
-            lines,
-            [
-                " 0:00:00  day 1 06:00:00  start; HILL 5.00 ft, rising; POND 2.00 ft, standing; LIFT closed; GATE active",
-                "30:00:00  day 2 12:00:00  end of the run, 1 step; HILL 4.00 ft, falling; POND 3.00 ft, rising",
-            ],
-        )
+        last = state(108_000, (4.0, 3.0), demands=(-1.0, 1.0))
+        lines = events.take(turn(state(), last, closed=state(demands=(1.0, 0.0)))) + events.end()
+        start = "start; HILL 5.00 ft, rising; POND 2.00 ft, standing; LIFT closed; GATE active"
+        end = "end of the run, 1 step; HILL 4.00 ft, falling; POND 3.00 ft, rising"
+        self.assertEqual(lines, [f" 0:00:00  day 1 06:00:00  {start}", f"30:00:00  day 2 12:00:00  {end}"])
 
     def test_a_run_of_no_time(self):
         lines = Events(network(WORKS.replace("30:00:00", "0:00:00")), state(), "").end()
@@ -193,10 +194,8 @@ class Drawn(unittest.TestCase):
         return text, xml.dom.minidom.parseString(text)
 
     def test_how_links_stand_and_what_changes_them(self):
-        opened = state(statuses=(OPEN, ACTIVE, OPEN))
-        closed = state(3600, statuses=(TEMP_CLOSED, ACTIVE, OPEN))
-        first = turn(state(), state(3600, statuses=(OPEN, ACTIVE, OPEN)), controlled=opened)
-        second = turn(state(3600, statuses=(OPEN, ACTIVE, OPEN)), state(108_000), closed=closed)
+        first = turn(state(), state(3600, lift=OPEN), controlled=state(lift=OPEN))
+        second = turn(state(3600, lift=OPEN), state(108_000), closed=state(3600, lift=TEMP_CLOSED))
         text, _ = self.drawn(first, second)
         body = text.partition("</defs>")[2].rpartition('<g transform="translate(16.0 0)">')[0]
         self.assertIn("LIFT", body)
@@ -211,8 +210,9 @@ class Drawn(unittest.TestCase):
 
     def test_limits_levels_of_controls_and_days(self):
         text, _ = self.drawn(turn(state(), state(108_000)))
-        for words in ("9.00 full", "1.00 empty", "8.00 control 2", "3.00 control 1", ">day 2<", ">24:00<", "30:00:00 from 06:00:00, 1 step<"):
-            self.assertIn(words, text)
+        for words in ("9.00 full", "1.00 empty", "8.00 control 2", "3.00 control 1", "day 2", "24:00"):
+            self.assertIn(f">{words}</text>", text)
+        self.assertIn(">30:00:00 from 06:00:00, 1 step</text>", text)
 
     def test_a_title_may_have_any_letters(self):
         _, document = self.drawn(turn(state(), state(108_000)), title="<Hill & Dale>")
