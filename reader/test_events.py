@@ -98,6 +98,16 @@ class Told(unittest.TestCase):
         lines = self.told(turn(empty, state(7200), closed=state(3600, (5.0, 0.0), main=TEMP_CLOSED)))
         self.assertEqual(lines[0], "POND is empty, 0.00 ft; MAIN closes: POND is empty")
 
+    def test_a_link_out_of_an_empty_tank_and_out_of_a_full_one(self):
+        """The other way round: out of a tank a flow drains it, and a flow back fills it."""
+        for level, flow, limit in ((1.0, 1.0, "empty"), (9.0, -1.0, "full")):
+            self.assertEqual(list(network().closers(1, state(3600, (level, 2.0), flows=(0.0, flow, 0.0)))), [(0, limit)])
+            self.assertEqual(list(network().closers(1, state(3600, (level, 2.0), flows=(0.0, -flow, 0.0)))), [])
+
+    def test_level_controls_are_passed_over_at_the_start(self):
+        (_, low), *_ = network().controls()
+        self.assertEqual([network().is_active(low, state(instant, (2.0, 2.0))) for instant in (0, 1)], [False, True])
+
     def test_a_tank_that_overflows_closes_nothing(self):
         self.assertEqual(list(network().closers(2, state(3600, (5.0, 4.0), flows=(0.0, 0.0, 1.0)))), [])
         full = state(3600, (5.0, 3.999), demands=(0.0, 1.0))
