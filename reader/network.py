@@ -1,7 +1,7 @@
 """The tables of a works under the names of its text, and what document 01 says of them on a state.
 
-Nothing here works out a head, a level or a flow: those are the program's. The rules below only tell which control,
-tank or limit a change in its states belongs to.
+Nothing here works out a head or a flow: those are the program's, and a level is a tank's head less its elevation. The
+rules below only tell which control, tank or limit a change in the states belongs to.
 """
 
 import math
