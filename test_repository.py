@@ -32,6 +32,12 @@ def load_tests(loader, own, pattern):
     return own
 
 
+class Suites(unittest.TestCase):
+    def test_none_is_left_out(self):
+        found = {path.parent for path in ROOT.glob("*/**/test_*.py") if "target" not in path.parts}
+        self.assertEqual(found, {ROOT / folder for folder in [*FOLDERS, "reader"]})
+
+
 def files(folder):
     return {path.name: path.read_bytes() for path in folder.iterdir()}
 

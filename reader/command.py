@@ -32,8 +32,8 @@ USAGE = """\
   --help               this text
 
 In the events a tank is full or empty, or at a control's level, when less than half a cubic foot is missing, as for the
-length of a step; rising and falling say how it came there. Names are those of FILE.txt beside FILE.image, else made of
-sort and index as in tools/README.md: T1, J2, pipe0, pump1.
+length of a step; rising and falling say how it came there. Names are those of FILE.txt beside FILE.image, if it is the
+text of that image; else they are made of sort and index as in tools/README.md: T1, J2, pipe0, pump1.
 
 The programs are built by `rt check`; the first time that proves every crate they stand on, and takes minutes.
 
@@ -134,7 +134,7 @@ def list_steps(driver, item, asked):
 def explain(item, number):
     """Says on standard error why the driver refuses, and answers it."""
     sys.stdout.flush()
-    fault = image_decode.judge(item.data, item.names())
+    fault = image_decode.judge(item.data, item.names)
     reason = str(fault)
     if fault is None or fault.number != number:
         reason = f"refused {number}: and tools/image_decode.py, which has the reasons, says {reason}"
@@ -145,21 +145,23 @@ def explain(item, number):
 def show_run(replay, item, listed, reason, asked):
     """Prints the events of a run and draws its picture, as asked."""
     tables = image_decode.decode(item.image_words())
-    network = Network(tables, item.names())
+    network = Network(tables, item.names)
     with closing(programs.lines(replay, states.input_of(item.data, tables, listed))) as lines:
         run = states.Run(lines, item.data, tables, listed)
         events, timeline = Events(network, run.start, reason), Timeline(network, run.start)
         for turn in run.turns():
-            timeline.take(turn)
-            tell(events.take(turn), asked)
-    if not listed.refused:
-        tell(events.end(), asked)
+            if asked.events:
+                tell(events.take(turn))
+            if asked.picture is not None:
+                timeline.take(turn)
+    if asked.events and not listed.refused:
+        tell(events.end())
     if asked.picture is not None:
         save(asked.picture, picture.drawn(item.title, timeline))
 
 
-def tell(lines, asked):
-    for line in lines if asked.events else []:
+def tell(lines):
+    for line in lines:
         print(line)
 
 

@@ -1,9 +1,11 @@
 #!/usr/bin/env python3
-"""Checks on generated works that every change in the proved programs' states has its reason: reader/explained.py FIRST LAST
+"""Checks on generated works that every change in the proved programs' states has its reason.
 
-For each seed it runs target/bin/driver and target/bin/replay on a driver's input of compare/rust/generate.py. Every link
-that the controls change has a control that is active, every link that closing closes has a tank that closes it and the
-other way round, every refusal the decoder's reason. It prints what it has seen; where something has no reason it stops.
+    reader/explained.py FIRST LAST
+
+For each seed it runs target/bin/driver and target/bin/replay on a driver's input of compare/rust/generate.py. Every
+link that the controls change has a control that is active, every link that closing closes has a tank that closes it and
+the other way round, every refusal the decoder's reason. It prints what it has seen, and stops at what has no reason.
 """
 
 import pathlib

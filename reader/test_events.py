@@ -101,8 +101,9 @@ class Told(unittest.TestCase):
     def test_a_link_out_of_an_empty_tank_and_out_of_a_full_one(self):
         """The other way round: out of a tank a flow drains it, and a flow back fills it."""
         for level, flow, limit in ((1.0, 1.0, "empty"), (9.0, -1.0, "full")):
-            self.assertEqual(list(network().closers(1, state(3600, (level, 2.0), flows=(0.0, flow, 0.0)))), [(0, limit)])
-            self.assertEqual(list(network().closers(1, state(3600, (level, 2.0), flows=(0.0, -flow, 0.0)))), [])
+            there, back = [state(3600, (level, 2.0), flows=(0.0, way * flow, 0.0)) for way in (1, -1)]
+            self.assertEqual(list(network().closers(1, there)), [(0, limit)])
+            self.assertEqual(list(network().closers(1, back)), [])
 
     def test_level_controls_are_passed_over_at_the_start(self):
         (_, low), *_ = network().controls()

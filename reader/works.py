@@ -1,5 +1,6 @@
 """The works that is asked for: the driver's input, a title, and the names that its text gives."""
 
+import functools
 import pathlib
 import re
 import struct
@@ -25,6 +26,7 @@ class Works:
         words = struct.unpack_from(f"<{len(self.data) // 4}I", self.data)
         return list(words[1 : 1 + words[0]]) if words else []
 
+    @functools.cached_property
     def names(self):
         """The names of the text, if it is the text of this image. None where names are to be made."""
         try:
