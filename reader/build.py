@@ -8,7 +8,7 @@ import subprocess
 import time
 
 from reader.failure import Failure
-from reader.programs import stop
+from reader.programs import started
 
 QUIET = 2.0  # seconds: what takes no longer is not spoken of
 LAST_LINES = 20  # of the log, where a proof fails
@@ -98,19 +98,14 @@ def lines_of(pipe):
 
 def follow(command, root, log, progress):
     """Runs rt to its end, keeps what it says in the log, and answers its status."""
-    pipes = {"stdin": subprocess.DEVNULL, "stdout": subprocess.PIPE, "stderr": subprocess.STDOUT}
-    process = subprocess.Popen(command, cwd=root, **pipes, start_new_session=True)
-    try:
-        with process.stdout:
-            for line in lines_of(process.stdout):
-                if line is None:
-                    progress.waited()
-                else:
-                    print(line, file=log, flush=True)
-                    progress.line(line)
+    with started(command, cwd=root, stdin=subprocess.DEVNULL, stderr=subprocess.STDOUT) as process:
+        for line in lines_of(process.stdout):
+            if line is None:
+                progress.waited()
+            else:
+                print(line, file=log, flush=True)
+                progress.line(line)
         return process.wait()
-    finally:
-        stop(process)
 
 
 def build(root, programs, say):

@@ -11,7 +11,8 @@ import image_decode
 
 from reader import ROOT, build, picture, programs, states, works
 from reader.events import Events
-from reader.failure import REFUSED, Failure, Interrupted
+from reader.failure import REFUSED, Failure
+from reader.interruption import INTERRUPTION, Interrupted
 from reader.listing import Listing, timed
 from reader.network import Network
 from reader.timeline import Timeline
@@ -172,14 +173,8 @@ def save(name, text):
         raise Failure(f"{name}: {error.strerror}") from None
 
 
-def interrupt(number, frame):
-    """A signal that asks for an end: what was started is ended on the way up."""
-    raise Interrupted(number)
-
-
 def main(arguments):
-    for number in (signal.SIGINT, signal.SIGTERM, signal.SIGHUP):
-        signal.signal(number, interrupt)
+    INTERRUPTION.listen()
     try:
         status = answer(parse(arguments))
         sys.stdout.flush()
