@@ -1,12 +1,7 @@
-"""Tests of the stock and of the command ./run: python3 -m unittest discover -s stock"""
+"""Tests of the stock: python3 -m unittest discover -s stock"""
 
-import os
-import pathlib
 import re
-import shutil
-import subprocess
 import sys
-import tempfile
 import unittest
 
 sys.dont_write_bytecode = True
@@ -16,7 +11,6 @@ import make  # noqa: E402
 import works  # noqa: E402
 from works import FOLDER, Junction, image_decode, steps  # noqa: E402
 
-ROOT = FOLDER.parent
 REFUSED = {"fernbank": "refused 8", "blank": "refused 5"}
 
 
@@ -100,78 +94,6 @@ class Flows(unittest.TestCase):
 
     def test_no_minus_zero(self):
         self.assertEqual(str(flows.rounded(-0.00001)), "0.0")
-
-
-STAND_IN = """#!/bin/sh
-[ -z "${RT_FAILS-}" ] || { echo 'rt: number is not proved'; exit 1; }
-mkdir -p target/bin
-printf '#!/bin/sh\\ncat >/dev/null\\nprintf "from length\\\\n0 3600\\\\n3600 90000\\\\nsteps 2\\\\n"\\n' >target/bin/driver
-chmod +x target/bin/driver
-"""
-LISTING = "from length\n0 3600\n3600 90000\nsteps 2\n"
-
-
-class Command(unittest.TestCase):
-    """./run in a copy of its own, with a stand-in for rt that builds a driver of two lines."""
-
-    def setUp(self):
-        self.folder = tempfile.TemporaryDirectory()
-        self.root = pathlib.Path(self.folder.name) / "a root"
-        (self.root / "bin").mkdir(parents=True)
-        shutil.copy(ROOT / "run", self.root / "run")
-        shutil.copytree(FOLDER, self.root / "stock")
-        (self.root / "bin" / "rt").write_text(STAND_IN)
-        (self.root / "bin" / "rt").chmod(0o755)
-
-    def tearDown(self):
-        self.folder.cleanup()
-
-    def run_it(self, *arguments, path=None, **environment):
-        path = path or f"{self.root / 'bin'}:{os.environ['PATH']}"
-        return subprocess.run(
-            [str(self.root / "run"), *arguments],
-            cwd=self.folder.name, capture_output=True, text=True, env={"PATH": path, **environment},
-        )
-
-    def test_plain_output_is_the_drivers(self):
-        for arguments in ([], ["coldash"], ["a root/stock/blank.image"]):
-            self.assertEqual(self.run_it(*arguments).stdout, LISTING)
-
-    def test_only_target_is_left_behind(self):
-        before = sorted(path.name for path in self.root.iterdir())
-        self.run_it("--times")
-        self.assertEqual(sorted(path.name for path in self.root.iterdir()), sorted([*before, "target"]))
-
-    def test_times(self):
-        lines = self.run_it("--times", "withycombe").stdout.splitlines()
-        self.assertTrue(lines[0].startswith("Withycombe: two tanks"))
-        self.assertEqual(lines[2].split(), ["0", "3600", "1", "18:00:00", "19:00:00"])
-        self.assertEqual(lines[3].split(), ["3600", "90000", "1", "19:00:00", "20:00:00"])
-        self.assertEqual(lines[-1], "steps 2")
-
-    def test_list(self):
-        lines = self.run_it("--list").stdout.splitlines()
-        self.assertEqual([line.split()[0] for line in lines], sorted(item.name for item in make.STOCK))
-
-    def test_errors(self):
-        for arguments in (["nosuch"], ["coldash", "blank"], ["--wrong"], ["a root/stock/coldash.txt"]):
-            done = self.run_it(*arguments)
-            self.assertEqual((done.returncode, done.stdout), (2, ""), arguments)
-            self.assertTrue(done.stderr, arguments)
-
-    def test_a_failed_build_is_told(self):
-        done = self.run_it(RT_FAILS="yes")
-        self.assertEqual((done.returncode, done.stdout), (2, ""))
-        self.assertIn("number is not proved", done.stderr)
-
-    def test_a_missing_toolchain_is_told(self):
-        tools = self.root / "tools"
-        tools.mkdir()
-        for name in ("sh", "dirname", "basename", "sed", "mkdir"):
-            (tools / name).symlink_to(shutil.which(name))
-        done = self.run_it(path=str(tools))
-        self.assertEqual((done.returncode, done.stdout), (2, ""))
-        self.assertIn("no rt on the PATH", done.stderr)
 
 
 if __name__ == "__main__":

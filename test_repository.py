@@ -1,0 +1,78 @@
+"""Tests of the repository as a whole: python3 -m unittest, or ./test for these and more.
+
+With no more words `python3 -m unittest` finds this file and the package reader; the suites of the other folders, which
+are no packages, are found from here.
+"""
+
+import pathlib
+import subprocess
+import sys
+import tempfile
+import unittest
+
+sys.dont_write_bytecode = True
+
+ROOT = pathlib.Path(__file__).resolve().parent
+FOLDERS = ["tools", "stock", "compare"]
+CRATES = ROOT / "crates"
+for place in ("compare", "compare/rust"):
+    sys.path.append(str(ROOT / place))
+
+import driver_cases  # noqa: E402
+import images  # noqa: E402
+
+
+def load_tests(loader, own, pattern):
+    """The tests of this file, and those of the folders."""
+    for folder in FOLDERS:
+        found = unittest.TestLoader().discover(str(ROOT / folder), pattern or "test*.py")
+        if not found.countTestCases():
+            raise SystemExit(f"there are no tests in {folder}")
+        own.addTests(found)
+    return own
+
+
+class Suites(unittest.TestCase):
+    def test_none_is_left_out(self):
+        found = {path.parent for path in ROOT.glob("*/**/test_*.py") if "target" not in path.parts}
+        self.assertEqual(found, {ROOT / folder for folder in [*FOLDERS, "reader"]})
+
+
+def files(folder):
+    return {path.name: path.read_bytes() for path in folder.iterdir()}
+
+
+class StoredCases(unittest.TestCase):
+    """The stored cases of the crates are what their generators make, as far as that needs no Rust."""
+
+    def test_image_cases(self):
+        with tempfile.TemporaryDirectory() as folder:
+            images.write(folder)
+            made = files(pathlib.Path(folder))
+        numbers = [line.split()[0] for line in made.pop("expected").decode().splitlines()]
+        self.assertEqual(files(CRATES / "image_cases" / "data"), made)
+        stdout = (CRATES / "image_cases" / "stdout").read_text()
+        self.assertEqual(stdout, "\n".join(numbers + [f"{len(numbers)} images", ""]))
+
+    def test_handed_in(self):
+        with tempfile.TemporaryDirectory() as folder:
+            command = [sys.executable, ROOT / "compare" / "handed_in.py", "--out", folder]
+            subprocess.run(command, check=True, capture_output=True)
+            for name, content in files(pathlib.Path(folder)).items():
+                self.assertEqual((CRATES / "handed_in" / name).read_bytes(), content, name)
+
+    def test_driver_cases(self):
+        """The inputs; the answers are the Rust's, but those to the stock stand there as its listings too."""
+        cases = driver_cases
+        parts = [cases.counts, cases.images, cases.loads, cases.long_ones, cases.seeded, cases.strained, cases.stock]
+        inputs = [case.input() for part in parts for case in part()]
+        made = {f"case{number:03}": given for number, given in enumerate(inputs)}
+        self.assertEqual(files(CRATES / "driver_cases" / "data"), made)
+        stdout = (CRATES / "driver_cases" / "stdout").read_text()
+        for image in (ROOT / "stock").glob("*.image"):
+            name = next(name for name, given in made.items() if given == image.read_bytes())
+            self.assertIn(f"{name}\n{image.with_suffix('.listing').read_text()}", stdout)
+
+
+if __name__ == "__main__":
+    unittest.main()
