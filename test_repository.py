@@ -5,6 +5,7 @@ are no packages, are found from here.
 """
 
 import pathlib
+import re
 import subprocess
 import sys
 import tempfile
@@ -72,6 +73,52 @@ class StoredCases(unittest.TestCase):
         for image in (ROOT / "stock").glob("*.image"):
             name = next(name for name, given in made.items() if given == image.read_bytes())
             self.assertIn(f"{name}\n{image.with_suffix('.listing').read_text()}", stdout)
+
+
+class Documents(unittest.TestCase):
+    """What the documents name is there."""
+
+    def setUp(self):
+        paths = [ROOT / "README.md", *sorted((ROOT / "docs").glob("*.md"))]
+        self.texts = {path.name: path.read_text() for path in paths if path.name != "NOTES.md"}
+
+    def test_crates(self):
+        listed = re.findall(r"^(\w+):", (ROOT / "crates.txt").read_text(), re.M)
+        self.assertEqual(sorted(listed), sorted(path.name for path in CRATES.iterdir()))
+        for name in listed:
+            self.assertIn(f"`{name}`", self.texts["README.md"])
+
+    def test_files_of_crates(self):
+        for document, text in self.texts.items():
+            for crate, rest in re.findall(r"`(?:crates/)?(\w+)/((?:src|specs|proofs|must-fail)[\w./*-]*)`", text):
+                if (CRATES / crate).is_dir():
+                    place = CRATES / crate / rest
+                    found = [name for end in ("", ".antt", ".edit") for name in place.parent.glob(place.name + end)]
+                    self.assertTrue(found, f"{document}: {crate}/{rest}")
+
+    def test_definitions(self):
+        """Behind `CRATE/specs/FILE`: stand names of that file."""
+        for document, text in self.texts.items():
+            for crate, file, names in re.findall(r"`(\w+)/specs/(\w+)(?:\.antt)?`: (`\w+`(?:, `\w+`)*)", text):
+                defined = (CRATES / crate / "specs" / f"{file}.antt").read_text()
+                for name in re.findall(r"\w+", names):
+                    self.assertRegex(defined, rf"\b{name}\b", f"{document}: {crate}/specs/{file}")
+
+    def test_wrong_answers(self):
+        """Every label of the table of wrong answers is an edit of its crate."""
+        table = self.texts["PROMISES.md"].partition("| Crate | Function: edits |")[2]
+        for row in re.findall(r"^\| (.*) \| (.*) \|$", table, re.M):
+            labels = re.findall(r"(?<![`\w])[a-z0-9]+_[a-z0-9_]*\*?", re.sub(r"`[^`]*`", "", row[1]))
+            crates = [name for name in re.findall(r"`(\w+)`", row[0])]
+            for label in labels:
+                found = [path for name in crates for path in CRATES.glob(f"{name}/must-fail/{label}.edit")]
+                self.assertTrue(found, f"{crates}: {label}")
+
+    def test_links(self):
+        for document, text in self.texts.items():
+            home = ROOT if document == "README.md" else ROOT / "docs"
+            for target in re.findall(r"\]\(([^)#]+)", text):
+                self.assertTrue((home / target).exists(), f"{document}: {target}")
 
 
 if __name__ == "__main__":
