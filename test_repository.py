@@ -16,11 +16,13 @@ sys.dont_write_bytecode = True
 ROOT = pathlib.Path(__file__).resolve().parent
 FOLDERS = ["tools", "stock", "compare"]
 CRATES = ROOT / "crates"
-for place in ("compare", "compare/rust"):
+for place in ("compare", "compare/rust", "stock", "tools"):
     sys.path.append(str(ROOT / place))
 
 import driver_cases  # noqa: E402
+import image_text  # noqa: E402
 import images  # noqa: E402
+import works  # noqa: E402
 
 
 def load_tests(loader, own, pattern):
@@ -119,6 +121,34 @@ class Documents(unittest.TestCase):
             home = ROOT if document == "README.md" else ROOT / "docs"
             for target in re.findall(r"\]\(([^)#]+)", text):
                 self.assertTrue((home / target).exists(), f"{document}: {target}")
+
+    def test_inputs_of_differences(self):
+        """Each is a text that assembles; a run begins as its row says, worked out in Python from document 01."""
+        text = self.texts["DIFFERENCES.md"].partition("## The inputs")[2]
+        inputs = dict(re.findall(r"^\*\*(.+?)\*\*\n\n```\n(.*?)```", text, re.M | re.S))
+        begins = {name: DIFFERENCES.get(name) for name in inputs}
+        self.assertEqual(set(DIFFERENCES) - set(inputs), set())
+        for name, begin in begins.items():
+            data = image_text.assemble(inputs[name]).data(counted=True)
+            if begin is not None:
+                self.assertEqual(works.run_of(data).listing().splitlines()[: len(begin)], begin, name)
+
+
+# How the runs of docs/DIFFERENCES.md begin; the other inputs end in calls for `replay`.
+DIFFERENCES = {
+    "1": ["from length", "0 7200"],
+    "2": ["from length", "0 3600"],
+    "3": ["from length", "0 10000"],
+    "4, two tanks": ["from length", "0 10000"],
+    "4, one tank": ["from length", "0 6", "6 9994"],
+    "5": ["from length", "0 200000"],
+    "7": ["from length", "0 314"],
+    "8": ["from length", "0 314"],
+    "15": ["from length", "0 7200"],
+    "16": ["from length", "0 3600"],
+    "21, empty pattern": ["refused 2"],
+    "21, timestep 0": ["refused 5"],
+}
 
 
 if __name__ == "__main__":
