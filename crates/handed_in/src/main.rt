@@ -17,18 +17,22 @@ use model::*;
 use project::changed_project;
 use state::changed_state;
 
-// Makes the change that comes next, and asks every call.
-fn run_change(p: Project, s: State) {
+fn read_change() -> Change {
     let what = read_word();
     let index = read_word() as usize;
     let low = read_word();
     let high = read_word();
-    let change = Change {
+    Change {
         what: what,
         index: index,
         low: low,
         high: high,
-    };
+    }
+}
+
+// Makes the change that comes next, and asks every call.
+fn run_change(p: Project, s: State) {
+    let change = read_change();
     print_numbers(changed_project(p, change), changed_state(s, change));
 }
 

@@ -36,31 +36,24 @@ fn changed_counts(n: Counts, c: Change) -> Counts {
 
 fn changed_patterns(p: Project, c: Change) -> Project {
     let mut q = p;
-    let index = c.index;
-    if index < 32 {
-        q.lengths[index] = c.index(19, q.lengths[index]);
-    }
-    if index < 5376 {
-        q.multipliers[index] = c.number(20, q.multipliers[index]);
-    }
+    let k = c.index % 32;
+    q.lengths[k] = c.index(19, q.lengths[k]);
+    let at = c.index % 5376;
+    q.multipliers[at] = c.number(20, q.multipliers[at]);
     q
 }
 
+// An index past a table would begin again at its start.
 fn changed_records(p: Project, c: Change) -> Project {
     let mut q = p;
-    let index = c.index;
-    if index < 256 {
-        q.nodes[index] = changed_node(q.nodes[index], c);
-    }
-    if index < 384 {
-        q.links[index] = changed_link(q.links[index], c);
-    }
-    if index < 64 {
-        q.controls[index] = changed_control(q.controls[index], c);
-    }
-    if index < 128 {
-        q.premises[index] = changed_premise(q.premises[index], c);
-    }
+    let node = c.index % 256;
+    q.nodes[node] = changed_node(q.nodes[node], c);
+    let link = c.index % 384;
+    q.links[link] = changed_link(q.links[link], c);
+    let control = c.index % 64;
+    q.controls[control] = changed_control(q.controls[control], c);
+    let premise = c.index % 128;
+    q.premises[premise] = changed_premise(q.premises[premise], c);
     q
 }
 

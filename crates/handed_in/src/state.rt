@@ -22,14 +22,11 @@ fn changed_link(l: LinkState, c: Change) -> LinkState {
 
 pub fn changed_state(s: State, c: Change) -> State {
     let mut t = s;
-    let index = c.index;
     t.clock.instant = c.word(0, t.clock.instant);
     t.clock.count = c.word(1, t.clock.count);
-    if index < 256 {
-        t.nodes[index] = changed_node(t.nodes[index], c);
-    }
-    if index < 384 {
-        t.links[index] = changed_link(t.links[index], c);
-    }
+    let node = c.index % 256;
+    t.nodes[node] = changed_node(t.nodes[node], c);
+    let link = c.index % 384;
+    t.links[link] = changed_link(t.links[link], c);
     t
 }
