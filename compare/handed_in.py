@@ -106,7 +106,7 @@ def statuses():
 
 def indices(declared):
     """ "index to nothing declared". One of 2^32 has a low word of 0."""
-    for value in (0, declared - 1, declared, LAST_WORD, 2**32, LAST_INDEX):
+    for value in (*range(declared), declared, LAST_WORD, 2**32, LAST_INDEX):
         yield value, value < declared
 
 
@@ -220,9 +220,9 @@ def tank_changes():
 def link_changes():
     for link, (start, end) in enumerate(ENDS):
         # "A link's ends differ."
-        ends = [*((node, True) for node in range(images.NODES)), *indices(images.NODES)]
-        yield from words_changed(START, link, [(node, within and node != end) for node, within in ends])
-        yield from words_changed(END, link, [(node, within and node != start) for node, within in ends])
+        for node, within in indices(images.NODES):
+            yield START, link, whole(node), tables(within and node != end)
+            yield END, link, whole(node), tables(within and node != start)
         yield from words_changed(LINK_STATUS, link, statuses())
     for link in (PIPE, VALVE):
         yield from numbers_changed(SIZE, link, diameters())
@@ -246,7 +246,10 @@ def control_changes():
 
 
 def premise_changes():
-    """ "Attributes 0 to 11: node, tank, link, system". A value is changed to each sort: the wrong sort for an attribute is no fault."""
+    """ "Attributes 0 to 11: node, tank, link, system". A value is changed to one of each sort.
+
+    "A value of the wrong sort, or a tank attribute of no tank, is false": neither is a fault.
+    """
     for attribute, declared in enumerate([images.NODES] * 6 + [images.LINKS] * 3):
         for index in (0, declared - 1, declared, LAST_WORD):
             yield PREMISE_TARGET, 0, [index, attribute], tables(index < declared)
@@ -259,7 +262,7 @@ def premise_changes():
         yield from words_changed(PREMISE_TIME, premise, times())
 
 
-# A value that breaks each word, for the entries past the counts: the count and the capacity of the table, its words.
+# For the entries past the counts: the count and the capacity of a table, and for its words a value that breaks each.
 PAST_COUNTS = [
     (images.NODES, 256, {HEAD: math.inf, DEMAND: math.nan, DEMAND_FLOW: -1e300}),
     (images.LINKS, 384, {FLOW: math.inf, STATUS: LAST_WORD, SETTING: 1e300}),
@@ -267,16 +270,10 @@ PAST_COUNTS = [
     (168 * images.PATTERNS, 5_376, {MULTIPLIER: math.inf}),
     (images.NODES, 256, {ELEVATION: math.inf, HEAD_PATTERN: LAST_WORD}),
     (images.LINKS, 384, {START: LAST_INDEX, END: LAST_INDEX, LINK_STATUS: 10, SIZE: -math.inf}),
-    (
-        len(ALL_CONTROLS),
-        64,
-        {CONTROL_NODE: LAST_INDEX, TARGET: 1e300, CONTROL_LINK: LAST_INDEX, CONTROL_STATUS: 10, CONTROL_SETTING: math.inf},
-    ),
-    (
-        len(ALL_PREMISES),
-        128,
-        {PREMISE_TARGET: LAST_WORD, PREMISE_NUMBER: math.inf, PREMISE_STATUS: 10, PREMISE_TIME: LAST_WORD},
-    ),
+    (len(ALL_CONTROLS), 64, {CONTROL_NODE: LAST_INDEX, TARGET: 1e300, CONTROL_LINK: LAST_INDEX}),
+    (len(ALL_CONTROLS), 64, {CONTROL_STATUS: 10, CONTROL_SETTING: math.inf}),
+    (len(ALL_PREMISES), 128, {PREMISE_TARGET: LAST_WORD, PREMISE_NUMBER: math.inf}),
+    (len(ALL_PREMISES), 128, {PREMISE_STATUS: 10, PREMISE_TIME: LAST_WORD}),
 ]
 
 

@@ -9,13 +9,15 @@ from images import image_decode
 
 CRATE = pathlib.Path(__file__).resolve().parent.parent / "crates" / "handed_in"
 NAMES = list(images.GOOD)
-NODES, LINKS, CONTROLS, PREMISES = (NAMES.index(name) for name in ("reservoir", "pipe", "high_pressure", "number_premise"))
+# The first record of each table.
+FIRST = ("reservoir", "pipe", "high_pressure", "number_premise")
+NODES, LINKS, CONTROLS, PREMISES = (NAMES.index(name) for name in FIRST)
 
 # Flags have no wrong value in the tables.
 FLAGS = {handed_in.SKIP, handed_in.PDA, handed_in.OVERFLOW, handed_in.DISABLED}
 INDICES = {handed_in.START, handed_in.END, handed_in.CONTROL_NODE, handed_in.CONTROL_LINK}
 
-# Where an image has each word: the first record of the kind, and the word's place in the record by the record's kind (its header is 0).
+# Where an image has each word: the first record of its table, and its place in a record of each kind. The header's is 0.
 WORDS = {
     **{handed_in.DURATION + i: (0, {1: 1 + i}) for i in range(6)},
     handed_in.DEFAULT_PATTERN: (0, {1: 8}),
@@ -135,12 +137,25 @@ class Changes(unittest.TestCase):
             asked[what] += 1
         self.assertLessEqual(WORDS.keys(), asked.keys())
 
-    def test_entries_past_the_counts_are_accepted(self):
-        changes = list(handed_in.past_count_changes())
-        self.assertTrue(all(expected == handed_in.good() for *_, expected in changes))
-        tables = {what for what, *_ in changes}
-        self.assertLessEqual({handed_in.ELEVATION, handed_in.START, handed_in.CONTROL_LINK, handed_in.PREMISE_TARGET}, tables)
-        self.assertLessEqual({handed_in.HEAD, handed_in.FLOW, handed_in.LENGTH, handed_in.MULTIPLIER}, tables)
+    def test_entries_past_the_counts_are_past_them(self):
+        project = image_decode.decode(images.image())
+        lengths = [len(pattern["multipliers"]) for pattern in project.patterns]
+        counts = {
+            range(handed_in.HEAD, handed_in.FLOW): len(project.nodes),
+            range(handed_in.FLOW, handed_in.DURATION): len(project.links),
+            range(handed_in.LENGTH, handed_in.MULTIPLIER): len(lengths),
+            range(handed_in.ELEVATION, handed_in.START): len(project.nodes),
+            range(handed_in.START, handed_in.CONTROL_NODE): len(project.links),
+            range(handed_in.CONTROL_NODE, handed_in.PREMISE_TARGET): len(project.controls),
+            range(handed_in.PREMISE_TARGET, handed_in.PREMISE_TIME + 1): len(project.premises),
+        }
+        for codes, count in counts.items():
+            indices = [index for what, index, *_ in handed_in.past_count_changes() if what in codes]
+            self.assertEqual(min(indices), count, codes)
+        for what, index, *_ in handed_in.past_count_changes():
+            pattern, place = divmod(index, 168)
+            if what == handed_in.MULTIPLIER and pattern < len(lengths):
+                self.assertGreaterEqual(place, lengths[pattern])
 
 
 if __name__ == "__main__":

@@ -1,5 +1,6 @@
 // A change of one word: which word, by a code, of which entry of its table, and the low and high word of the new value. The code of each word stands
-// beside the field that it changes, in the files of the records. A word with another code stays as it was.
+// beside the field that it changes, in the files of the records. A word with another code stays as it was. An index past a table's end counts on from
+// its start.
 use model::PatternIndex;
 use number::from_words;
 

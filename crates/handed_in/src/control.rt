@@ -4,6 +4,7 @@ use model::Control;
 use model::ControlCondition;
 use model::SettingAction;
 use model::StatusAction;
+use number::from_words;
 
 fn changed_condition(condition: ControlCondition, c: Change) -> ControlCondition {
     match condition {
@@ -43,7 +44,7 @@ fn changed_status(old: StatusAction, c: Change) -> StatusAction {
 // The setting, which the control had or had not.
 fn changed_setting(old: SettingAction, c: Change) -> SettingAction {
     if c.what == 51 {
-        return SettingAction::SetSetting(c.number(51, 0.0));
+        return SettingAction::SetSetting(from_words(c.low, c.high));
     }
     old
 }

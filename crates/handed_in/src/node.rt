@@ -59,17 +59,17 @@ fn changed_junction(j: Junction, c: Change) -> Junction {
     }
 }
 
+fn changed_kind(kind: NodeType, c: Change) -> NodeType {
+    match kind {
+        NodeType::Reservoir(r) => NodeType::Reservoir(changed_reservoir(r, c)),
+        NodeType::Tank(t) => NodeType::Tank(changed_tank(t, c)),
+        NodeType::Junction(j) => NodeType::Junction(changed_junction(j, c)),
+    }
+}
+
 pub fn changed_node(n: Node, c: Change) -> Node {
     let kind = n.kind;
-    match kind {
-        NodeType::Reservoir(r) => Node {
-            kind: NodeType::Reservoir(changed_reservoir(r, c)),
-        },
-        NodeType::Tank(t) => Node {
-            kind: NodeType::Tank(changed_tank(t, c)),
-        },
-        NodeType::Junction(j) => Node {
-            kind: NodeType::Junction(changed_junction(j, c)),
-        },
+    Node {
+        kind: changed_kind(kind, c),
     }
 }

@@ -7,6 +7,7 @@ use model::Premise;
 use model::RuleConditionTarget;
 use model::SystemAttribute;
 use model::TankAttribute;
+use number::from_words;
 
 // The attributes 0 to 11 of an image.
 fn target_of(attribute: u32, i: usize) -> RuleConditionTarget {
@@ -37,7 +38,7 @@ fn changed_target(old: RuleConditionTarget, c: Change) -> RuleConditionTarget {
 // The value, of whichever sort it was.
 fn changed_value(old: ConditionValue, c: Change) -> ConditionValue {
     if c.what == 53 {
-        return ConditionValue::Number(c.number(53, 0.0));
+        return ConditionValue::Number(from_words(c.low, c.high));
     }
     if c.what == 54 {
         return ConditionValue::Status(c.low);

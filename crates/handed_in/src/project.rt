@@ -34,18 +34,14 @@ fn changed_counts(n: Counts, c: Change) -> Counts {
     }
 }
 
-fn changed_patterns(p: Project, c: Change) -> Project {
+pub fn changed_project(p: Project, c: Change) -> Project {
     let mut q = p;
-    let k = c.index % 32;
-    q.lengths[k] = c.index(19, q.lengths[k]);
-    let at = c.index % 5376;
-    q.multipliers[at] = c.number(20, q.multipliers[at]);
-    q
-}
-
-// An index past a table would begin again at its start.
-fn changed_records(p: Project, c: Change) -> Project {
-    let mut q = p;
+    q.options = changed_options(q.options, c);
+    q.counts = changed_counts(q.counts, c);
+    let pattern = c.index % 32;
+    q.lengths[pattern] = c.index(19, q.lengths[pattern]);
+    let multiplier = c.index % 5376;
+    q.multipliers[multiplier] = c.number(20, q.multipliers[multiplier]);
     let node = c.index % 256;
     q.nodes[node] = changed_node(q.nodes[node], c);
     let link = c.index % 384;
@@ -54,12 +50,5 @@ fn changed_records(p: Project, c: Change) -> Project {
     q.controls[control] = changed_control(q.controls[control], c);
     let premise = c.index % 128;
     q.premises[premise] = changed_premise(q.premises[premise], c);
-    q
-}
-
-pub fn changed_project(p: Project, c: Change) -> Project {
-    let mut q = changed_records(changed_patterns(p, c), c);
-    q.options = changed_options(q.options, c);
-    q.counts = changed_counts(q.counts, c);
     q
 }
