@@ -15,8 +15,8 @@ fn premise_number(a: PremiseAnswer) -> u32 {
     }
 }
 
-// The start, patterns, controls, a load without a word, closing, the pressure pass, premise 0 and the step.
-pub fn print_numbers(p: Project, s: State) {
+// The start, patterns, controls and a load without a word.
+fn print_up_to_load(p: Project, s: State) {
     let start = calls::new_with_initial_values(p);
     print(start.number);
     let patterns = calls::apply_patterns(p, s);
@@ -26,6 +26,10 @@ pub fn print_numbers(p: Project, s: State) {
     let none: [u32; 1] = [0];
     let load = calls::take_load(p, s, &none);
     print(load.number);
+}
+
+// Closing, the pressure pass, premise 0 and the step.
+fn print_after_load(p: Project, s: State) {
     let close = calls::update_tank_links(p, s);
     print(close.number);
     let pressure = calls::apply_pressure_controls(p, s);
@@ -33,5 +37,10 @@ pub fn print_numbers(p: Project, s: State) {
     print(premise_number(calls::premise_truth(p, s, 0)));
     let step = calls::next_hydraulic_timestep(p, s);
     print(step.number);
+}
+
+pub fn print_numbers(p: Project, s: State) {
+    print_up_to_load(p, s);
+    print_after_load(p, s);
     io::write_all(STDOUT_FILENO, b"\n");
 }

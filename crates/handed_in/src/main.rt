@@ -3,23 +3,37 @@
 // Each change is made alone, to the project as decoded and its start. `compare/handed_in.py` makes the input and what has to come out.
 mod ask;
 mod change;
+mod control;
+mod link;
+mod node;
+mod premise;
+mod project;
+mod state;
 
 use ask::print_numbers;
-use change::changed_project;
-use change::changed_state;
+use change::Change;
 use libc::STDIN_FILENO;
 use model::*;
+use project::changed_project;
+use state::changed_state;
 
-// Makes the change that comes next, and asks every call.
-fn run_change(p: Project, s: State) {
+fn read_change() -> Change {
     let what = read_word();
     let index = read_word() as usize;
     let low = read_word();
     let high = read_word();
-    print_numbers(
-        changed_project(p, what, index, low, high),
-        changed_state(s, what, index, low, high),
-    );
+    Change {
+        what: what,
+        index: index,
+        low: low,
+        high: high,
+    }
+}
+
+// Makes the change that comes next, and asks every call.
+fn run_change(p: Project, s: State) {
+    let change = read_change();
+    print_numbers(changed_project(p, change), changed_state(s, change));
 }
 
 fn run_changes(p: Project, s: State, n: u32) {
