@@ -1,4 +1,5 @@
--- Needs no belief: what the functions of the crate promise of a run of turns; `image-accepted` shows that chunks join up to all that is printed.
+-- What `advance` promises of a run of turns, and a run made in chunks, as the program makes it: no contract can say that `driver_io` does, but its loop is short
+-- enough to read beside `Chunked`.
 use Prim.Native.Nat.{ℕ, _-_, _≤_, _<_}
 use mathlib.Core.Path.{_≡_}
 use mathlib.Core.Bool.{Bool, true, false, cond}
