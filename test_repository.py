@@ -77,6 +77,16 @@ class StoredCases(unittest.TestCase):
             self.assertIn(f"{name}\n{image.with_suffix('.listing').read_text()}", stdout)
 
 
+class Sources(unittest.TestCase):
+    """What a request asks of the source and no proof can tell."""
+
+    def test_comparisons_in_the_manuals_order(self):
+        """R-6: the contract of `compare_f64` holds in any order of its arms."""
+        body = (CRATES / "number" / "src" / "compare.rt").read_text().partition("pub fn compare_f64")[2]
+        asked = re.findall(r"ComparisonOperator::(\w+) =>", body)
+        self.assertEqual(asked, ["Eq", "Ne", "Lt", "Gt", "Le", "Ge"])
+
+
 class Documents(unittest.TestCase):
     """What the documents name is there."""
 

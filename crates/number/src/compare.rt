@@ -19,13 +19,14 @@ impl ComparisonOperator {
         ensures { λ r. ⌜ r ≡ compareF64 self lhs rhs ⌝ }
     {
         let diff = lhs - rhs;
+        // In the order of the manual's list: =, <>, <, >, <=, >=.
         match self {
             ComparisonOperator::Eq => abs(diff) <= H_TOL,
             ComparisonOperator::Ne => abs(diff) > H_TOL,
-            ComparisonOperator::Gt => diff > H_TOL,
             ComparisonOperator::Lt => diff < -H_TOL,
-            ComparisonOperator::Ge => diff >= -H_TOL,
+            ComparisonOperator::Gt => diff > H_TOL,
             ComparisonOperator::Le => diff <= H_TOL,
+            ComparisonOperator::Ge => diff >= -H_TOL,
         }
     }
 }
