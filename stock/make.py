@@ -51,6 +51,7 @@ class Works:
 STOCK = [
     Works("hazelcombe"),
     Works("netherbeck", loads=EVERY_STEP),
+    Works("oxbarrow", loads=EVERY_STEP),
     Works("withycombe", loads=EVERY_STEP),
     Works("coldash"),
     Works("ravensdale", loads=EVERY_STEP),

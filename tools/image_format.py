@@ -619,7 +619,7 @@ FORMS = [
         1,
         [
             Field("duration", SECONDS),
-            Field("hydraulic", SECONDS),
+            Field("hydraulic", SECONDS, "0"),
             Field("report", SECONDS),
             Field("pattern_timestep", SECONDS),
             Field("pattern_start", SECONDS, "0"),

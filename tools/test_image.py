@@ -214,6 +214,13 @@ class Showing(unittest.TestCase):
         line = image_format.NUMBER.show([1, 0x7FF00000], Names())
         self.assertEqual(line, "0x7ff0000000000001")
 
+    def test_a_hydraulic_timestep_left_out(self):
+        """It is the 0 that is read as an hour, and is shown as the word that it is."""
+        rest = "report=1 pattern_timestep=1"
+        self.assertEqual(words_of(f"options duration=1 {rest}"), words_of(f"options duration=1 hydraulic=0 {rest}"))
+        (line,) = image_show.show(packed(words_of(f"options duration=1 {rest}"))).lines
+        self.assertIn("hydraulic=0", line)
+
     def test_times_of_day(self):
         words = words_of("options duration=90000 hydraulic=0 report=1 pattern_timestep=1 start_clock=82805")
         (line,) = image_show.show(packed(words)).lines

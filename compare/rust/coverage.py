@@ -136,7 +136,7 @@ def count_project(counts, project):
     options = project.options
     junctions = [project.nodes[index] for index in project.junctions()]
     pumps = [link for link in project.links if link.sort == PUMP]
-    counts["options: hydraulic 0" if options.hydraulic == 0 else "options: hydraulic above 0"] += 1
+    counts["options: hydraulic 0, an hour" if options.hydraulic == 0 else "options: hydraulic above 0"] += 1
     counts["options: PDA" if options.flags & PDA else "options: not PDA"] += 1
     counts["options: default pattern" if options.default_pattern else "options: no default pattern"] += 1
     counts["options: fast path" if project.is_on_fast_path() else "options: no fast path"] += 1
@@ -344,7 +344,8 @@ def expected():
     yield from named("premise", (f"{sort} for {what} false" for sort in SORTS for what in SUBJECTS))
     yield from named("premise", ["a tank's attribute of no tank false"])
     yield from named("patterns", ["a reservoir's head changes", "a tank's demand becomes 0.0", "demand flows change"])
-    yield from named("options", ["PDA", "not PDA", "default pattern", "no default pattern", "fast path", "hydraulic 0"])
+    yield from named("options", ["PDA", "not PDA", "default pattern", "no default pattern", "fast path"])
+    yield from named("options", ["hydraulic 0, an hour", "hydraulic above 0"])
     yield from named("nodes", ["disabled junctions", "junctions of four demands"])
     yield from named("pumps", ["setting 0", "flow not a multiple of the setting"])
     yield from named("image", ["largest tables", "all its words used"])

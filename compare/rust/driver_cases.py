@@ -4,8 +4,8 @@
     driver_cases.py --oracle PATH --out FOLDER
 
 It writes FOLDER/data/case000, case001, .. and FOLDER/stdout: each case's name, the oracle's answer to it as `driver`,
-and the count of cases. The cases are those below, each for a sentence of document 01, then some of the seeds', and last
-the works of the stock by their names; what the oracle answers to these is held to the stock's listings.
+and the count of cases. The cases are those below, each for a sentence of document 01 or 02, some of the seeds' among
+them, and last the works of the stock by their names; what the oracle answers to these is held to the stock's listings.
 """
 
 import argparse
@@ -119,8 +119,25 @@ def strained():
     return map(generate.strain_case, range(1, 6))
 
 
+def hydraulic():
+    """Document 02, R-7: "From now on 0 is read as 3,600", "Makers of images who relied on no bound write 315,360,000"."""
+    for timestep in (0, 3_599, 3_600, 3_601, LONGEST_TIME):
+        yield Drive(Project(Options(7_200, timestep, 7_200, 7_200)), [])
+    yield Drive(Project(Options(LONGEST_TIME, LONGEST_TIME, LONGEST_TIME, LONGEST_TIME)), [])
+    # The hour is counted from where the step begins, and the fast path does not ask for it.
+    yield Drive(Project(Options(10_000, 0, 5_000, 10_000)), [])
+    yield Drive(Project(Options(10_000, 0, 5_000, 10_000, flags=SKIP)), [])
+
+
 def stock():
     return [Raw(image.read_bytes()) for image in sorted(STOCK.glob("*.image"))]
+
+
+PARTS = (counts, images, loads, long_ones, seeded, strained, hydraulic, stock)
+
+
+def inputs():
+    return [case.input() for part in PARTS for case in part()]
 
 
 def check_stock(answers):
@@ -138,16 +155,16 @@ def main():
     data.mkdir(parents=True, exist_ok=True)
     for old in data.glob("case*"):
         old.unlink()
-    inputs = [case.input() for part in (counts, images, loads, long_ones, seeded, strained, stock) for case in part()]
-    answers = Program(arguments.oracle).answers([(DRIVER, given) for given in inputs])
+    made = inputs()
+    answers = Program(arguments.oracle).answers([(DRIVER, given) for given in made])
     check_stock(answers[-len(stock()):])
     expected = b""
-    for number, (given, answer) in enumerate(zip(inputs, answers)):
+    for number, (given, answer) in enumerate(zip(made, answers)):
         name = f"case{number:03}"
         (data / name).write_bytes(given)
         expected += name.encode() + b"\n" + answer
-    (Path(arguments.out) / "stdout").write_bytes(expected + b"%d cases\n" % len(inputs))
-    print(f"{len(inputs)} cases in {data}")
+    (Path(arguments.out) / "stdout").write_bytes(expected + b"%d cases\n" % len(made))
+    print(f"{len(made)} cases in {data}")
 
 
 if __name__ == "__main__":

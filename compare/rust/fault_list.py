@@ -247,8 +247,10 @@ STEPS = [
     fault("a pressure control gives half an hour", SIMULATION, (318, "usize::MAX", "1800")),
     fault("a control in a second is dropped", SIMULATION, (320, "0", "1")),
     fault("a control that is due hides the others' times", SIMULATION, (320, ">", ">=")),
-    fault("a hydraulic timestep of 0 is a bound", SIMULATION, (333, ">", ">=")),
+    fault("a candidate of 0, such as a full tank's, is a bound", SIMULATION, (333, ">", ">=")),
     fault("the hydraulic timestep sets no bound", SIMULATION, (330, "hydraulic_timestep", "report_timestep")),
+    reading("0 is given to the Rust as no bound", "network.rs", ("{ 3600 }", "{ 0 }")),
+    reading("0 is given to the Rust as a minute", "network.rs", ("{ 3600 }", "{ 60 }")),
 ]
 
 PREMISES = [

@@ -88,7 +88,7 @@ def hours_case(seed):
     tank = Tank(make_elevation(chance), initial=chance.uniform(2.0, 8.0), greatest=10.0, diameter=diameter(chance))
     level = tank.elevation + tank.initial - tank.elevation
     length = chance.randint(1 << 24, LONGEST_TIME - 1)
-    options = Options(duration=LONGEST_TIME, report=length, pattern=length)
+    options = Options(LONGEST_TIME, LONGEST_TIME, length, length)
     project = Project(options, [], [tank, Reservoir(50.0)], [Link(1, 0)])
     calls = []
     for number in range(12):
@@ -113,7 +113,7 @@ def strain_case(seed):
     ends = chance.sample(((1, 0), (2, 0), (0, 1), (0, 2)), 3)
     links = [Link(start, end, status=OPEN) for start, end in ends]
     loads = [strained(chance, tank, links) for _ in range(chance.randint(1, 4))]
-    options = Options(duration=3 * DAY, report=DAY, pattern=DAY, start_clock=chance.randrange(DAY))
+    options = Options(3 * DAY, LONGEST_TIME, DAY, DAY, start_clock=chance.randrange(DAY))
     return Drive(Project(options, [], [tank, Reservoir(50.0), Junction()], links), loads)
 
 
@@ -190,9 +190,9 @@ def make_options(chance):
     if chance.one_in(2):
         # Long timesteps, so that tanks and controls cut the steps.
         report, pattern = chance.choices((7200, DAY, DAY + 1, 7 * DAY, LONGEST_TIME), k=2)
-        hydraulic = chance.choice((0, 0, DAY, LONGEST_TIME))
+        hydraulic = chance.choice((0, LONGEST_TIME, DAY, LONGEST_TIME))
     return Options(
-        duration=make_duration(chance, (report, pattern, hydraulic)),
+        duration=make_duration(chance, (report, pattern, hydraulic or HOUR)),
         hydraulic=hydraulic,
         report=report,
         pattern=pattern,
@@ -221,7 +221,7 @@ def shorten(chance, project, most_steps=600):
     options = project.options
     timesteps = [options.report]
     if not project.is_on_fast_path():
-        timesteps += [options.pattern, options.hydraulic or LONGEST_TIME, DAY // (1 + len(project.controls))]
+        timesteps += [options.pattern, options.hydraulic_in_force(), DAY // (1 + len(project.controls))]
     each = 1.0 / sum(1.0 / seconds for seconds in timesteps)
     options.duration = int(min(options.duration, each * chance.randint(1, most_steps)))
 
@@ -356,7 +356,7 @@ def set_action(chance, control, flags):
 
 def control_seconds(chance, options):
     """Due at the start, at a timestep, a second beside it, about the end, or never."""
-    timesteps = (options.report, options.pattern, options.hydraulic)
+    timesteps = (options.report, options.pattern, options.hydraulic_in_force())
     seconds = chance.among(
         (2, 0),
         (5, lambda: chance.choice(timesteps) * chance.randint(0, 4) + chance.randint(-1, 1)),
@@ -469,7 +469,7 @@ def timed_flow(chance, project, index, head):
 
 def partial_flow(chance, options, tank, head):
     """A flow that takes the tank a part of the way between its limits in one timestep, mostly away from the nearer."""
-    timesteps = (options.report, options.pattern, options.hydraulic or options.report)
+    timesteps = (options.report, options.pattern, options.hydraulic_in_force())
     span = volume(tank, tank.greatest) - volume(tank, tank.least)
     flow = span / (chance.uniform(0.8, 6.0) * chance.choice((min(timesteps), chance.choice(timesteps))))
     if head - tank.elevation > (tank.least + tank.greatest) / 2:

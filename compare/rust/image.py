@@ -18,6 +18,7 @@ MOST_PREMISES = 128
 MOST_DEMANDS = 4
 
 LONGEST_TIME = 315_360_000
+HOUR = 3_600
 DAY = 86_400
 MOST_FEET = 1e5
 MOST_OTHER = 1e6
@@ -88,7 +89,7 @@ class Record:
 class Options(Record):
     kind = 1
     duration: int = 0
-    hydraulic: int = 0
+    hydraulic: int = 0  # an hour
     report: int = 3600
     pattern: int = 3600
     pattern_start: int = 0
@@ -96,6 +97,10 @@ class Options(Record):
     flags: int = 0
     default_pattern: int = 0
     multiplier: float = 1.0
+
+    def hydraulic_in_force(self):
+        """Document 02, R-7: "From now on 0 is read as 3,600"."""
+        return self.hydraulic or HOUR
 
 
 @dataclass

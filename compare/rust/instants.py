@@ -24,7 +24,7 @@ def tank_t(level, **changes):
 
 def one_tank(level, controls=(), report=FAR, **changes):
     """The tank at node 0, fed from node 1 through link 0, and nothing but report timesteps beside."""
-    options = Options(duration=FAR, report=report, pattern=FAR)
+    options = Options(FAR, FAR, report, FAR)
     return Project(options, nodes=[tank_t(level, **changes), Reservoir()], links=[Link(1, 0)], controls=list(controls))
 
 
@@ -93,9 +93,9 @@ def new_heads(asked):
 
 def control_times(asked):
     for start_clock, length in ((1800, "100000"), (3600, "84600"), (1799, "1"), (1801, "86399")):
-        project = one_control(Options(FAR, 0, 100_000, FAR, start_clock=start_clock), Control(CLOCK_TIME, 1800))
+        project = one_control(Options(FAR, FAR, 100_000, FAR, start_clock=start_clock), Control(CLOCK_TIME, 1800))
         asked.expect(f"clock control 1,800 at clock {start_clock}", length, asked.step(project))
-    project = one_control(Options(FAR, 0, 901, FAR), Control(TIME, 900))
+    project = one_control(Options(FAR, FAR, 901, FAR), Control(TIME, 900))
     lengths = [line[1] for line in asked.replay(project, STEP, STEP, STEP)]
     asked.expect("time control 900: from 0, 900 and 901", ["900", "1", "901"], lengths)
 
@@ -105,10 +105,10 @@ def one_control(options, control):
 
 
 def clock_and_pattern(asked):
-    project = Project(Options(FAR, 0, 7200, FAR, start_clock=82_800), premises=[Premise(0, 11, 0, 0, SECONDS, 3600)])
+    project = Project(Options(FAR, FAR, 7200, FAR, start_clock=82_800), premises=[Premise(0, 11, 0, 0, SECONDS, 3600)])
     lines = asked.replay(project, STEP, Call(PREMISE_CALL))
     asked.expect("start clock 82,800, time 7,200: clock 3,600", "true", lines[-1][1])
-    project = Project(Options(FAR, 0, FAR, 3600, pattern_start=3600), [Pattern([5.0, 7.0])], [Reservoir(1.0, 1)])
+    project = Project(Options(FAR, FAR, FAR, 3600, pattern_start=3600), [Pattern([5.0, 7.0])], [Reservoir(1.0, 1)])
     lines = asked.replay(project, STEP, STEP, PATTERNS)
     asked.expect("pattern start and timestep 3,600, time 7,200", 7.0, head(lines[-1]))
 

@@ -87,7 +87,7 @@ def causes(project, state):
         "pattern": options.pattern - state.instant % options.pattern,
         "remainder": options.duration - state.instant,
         "tank": min([tank_time(project, state, index) for index in project.tanks()], default=NEVER),
-        "hydraulic": options.hydraulic,
+        "hydraulic": options.hydraulic_in_force(),
     }
     for control in project.controls:
         name, seconds = f"{CONDITIONS[control.condition]} control", control_time(project, state, control)

@@ -17,6 +17,7 @@ const MOST_PREMISES: usize = 128;
 /// Seconds: ten years, and a day's last.
 const LONGEST: u32 = 315_360_000;
 const LAST_OF_DAY: u32 = 86_399;
+const HOUR: u32 = 3_600;
 
 /// Feet.
 const FEET: RangeInclusive<f64> = -100_000.0..=100_000.0;
@@ -121,6 +122,11 @@ impl<'a> Payload<'a> {
     }
 }
 
+/// Document 02, R-7: "From now on 0 is read as 3,600".
+fn in_force(hydraulic_timestep: u32) -> u32 {
+    if hydraulic_timestep == 0 { HOUR } else { hydraulic_timestep }
+}
+
 fn judge(right: bool, fault: Fault) -> Result<(), Fault> {
     if right { Ok(()) } else { Err(fault) }
 }
@@ -130,7 +136,7 @@ impl Decoder {
         let mut payload = Payload::new(options);
         let times = Times {
             duration: payload.word_in(0..=LONGEST),
-            hydraulic_timestep: payload.word_in(0..=LONGEST),
+            hydraulic_timestep: in_force(payload.word_in(0..=LONGEST)),
             report_timestep: payload.word_in(1..=LONGEST),
             pattern_timestep: payload.word_in(1..=LONGEST),
             pattern_start: payload.word_in(0..=LONGEST),

@@ -31,7 +31,7 @@ pub struct Project {
 #[derive(Clone, Copy)]
 pub struct Times {
     pub duration: u32,
-    /// 0 sets no bound.
+    /// The one in force: an hour where the image has 0.
     pub hydraulic_timestep: u32,
     pub report_timestep: u32,
     pub pattern_timestep: u32,

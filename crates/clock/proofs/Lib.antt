@@ -2,6 +2,7 @@
 pub mod Tests
 pub mod Smallest
 pub mod Lengths
+pub mod Unbounded
 pub mod Advanced
 pub mod Bound
 pub mod Demand3

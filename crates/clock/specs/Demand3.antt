@@ -11,7 +11,7 @@ use Rattle.clock.specs.Triggers.{Trigger, atTime, atClock, atLevel, unti
 use Rattle.clock.specs.Machine.{Machine, bit, final, Along, asked, answered, timesMoved, stateSteps}
 
 -- ---- the numbers of the bound
--- "Whole timesteps and days are rounded down"; "no hydraulic ones where that field is 0"
+-- "Whole timesteps and days are rounded down"; of a timestep of 0, which is none, there are none
 unfoldable pub whole : ℕ → ℕ → ℕ
 whole n k = cond (eqb k 0) 0 (n / k)
 
@@ -36,8 +36,9 @@ unfoldable pub countOf : {A : Type 0} → (A → Bool) → List A → ℕ
 countOf t [] = 0
 countOf t (x ∷ xs) = bit (t x) + countOf t xs
 
--- "the whole report, pattern and hydraulic timesteps in the duration (no hydraulic ones where that field is 0), plus one per time control, plus
--- for each clock control one more than the whole days, plus the steps as long as that moment's tank or level-control time, plus one"
+-- "the whole report, pattern and hydraulic timesteps in the duration .., plus one per time control, plus for each clock control one more than the
+-- whole days, plus the steps as long as that moment's tank or level-control time, plus one". The hydraulic timestep is the one in force: in place of
+-- "(no hydraulic ones where that field is 0)" stands document 02, R-7, "The bound on steps counts whole hours where the field is 0".
 unfoldable pub bound : {L : Type 0} → Times → List (Trigger L) → ℕ → ℕ
 bound o ts steps =
     whole (o .duration) (o .report) + whole (o .duration) (o .pattern) + whole (o .duration) (o .hydraulic)

@@ -35,7 +35,8 @@ abbrev pub toNext : ℕ → ℕ → ℕ
 toNext timestep time = timestep - time % timestep
 
 -- `calculate_time_step`. The tanks' candidate is the smallest over all tanks, zeros too: it drops out here, "for tanks only after the
--- smallest over all of them has been taken". The controls' is the smallest that is not 0. "Hydraulic timestep 0 sets no bound."
+-- smallest over all of them has been taken". The controls' is the smallest that is not 0. The hydraulic timestep is the one in force, 0 for none:
+-- "Hydraulic timestep 0 sets no bound", which by document 02, R-7, no project has any more.
 unfoldable pub calculateTimeStep : Times → ℕ → ℕ → ℕ → ℕ
 calculateTimeStep o tanks controls time =
     cond (o .fast) (o .report)

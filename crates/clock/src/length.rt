@@ -5,8 +5,8 @@ use crate::candidates::smaller_positive;
 use crate::candidates::time_to_next;
 use number::constants::MAX;
 
-// The options that a step reads, in seconds. `hydraulic`, `report` and `pattern` are timesteps, and a hydraulic timestep of 0
-// sets no bound. `fast`: the project is on the fast path.
+// The options that a step reads, in seconds. `hydraulic`, `report` and `pattern` are timesteps; the hydraulic one is that in
+// force, and 0 for none. `fast`: the project is on the fast path.
 pub struct Times {
     pub duration: u32,
     pub hydraulic: u32,

@@ -29,12 +29,16 @@ noTanks p = allBelow (p .counts .nodes) (noTankAt p)
 unfoldable pub onFastPath : Project → Bool
 onFastPath p = p .options .skip && eqb (p .counts .controls) 0 && noTanks p
 
+-- Document 02, R-7: "From now on 0 is read as 3,600"
+unfoldable pub hydraulicInForce : ℕ → ℕ
+hydraulicInForce hydraulic = cond (eqb hydraulic 0) 3600 hydraulic
+
 unfoldable pub timesOf : Project → Times
 timesOf p =
     let o = p .options in
     record {
       duration = o .duration;
-      hydraulic = o .hydraulic;
+      hydraulic = hydraulicInForce (o .hydraulic);
       report = o .report;
       pattern = o .pattern;
       «start_clock» = o .«start_clock»;

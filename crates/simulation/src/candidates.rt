@@ -3,7 +3,7 @@ ghost use mathlib.Core.Path.{_≡_};
 ghost use Prim.Native.Nat.{min};
 ghost use Rattle.clock.specs.Triggers.{controlTime};
 ghost use Rattle.tables.specs.Fit.{TablesFit};
-ghost use Rattle.simulation.specs.Steps.{noTanks, onFastPath, timesOf, triggersOf, tankTime, momentOf};
+ghost use Rattle.simulation.specs.Steps.{noTanks, onFastPath, hydraulicInForce, timesOf, triggersOf, tankTime, momentOf};
 use clock::Times;
 use clock::clock_time;
 use clock::smaller_positive;
@@ -44,6 +44,19 @@ fn on_fast_path(p: Project) -> bool
     no_tanks(p)
 }
 
+// The seconds of the hydraulic timestep where its field is blank.
+const HOUR: u32 = 3600;
+
+// The hydraulic timestep in force, by the options' field.
+fn hydraulic_in_force(hydraulic: u32) -> u32
+    ensures { λ r. ⌜ r ≡ hydraulicInForce hydraulic ⌝ }
+{
+    if hydraulic == 0 {
+        return HOUR;
+    }
+    hydraulic
+}
+
 pub fn times_of(p: Project) -> Times
     requires { ⌜ TablesFit p ⌝ }
     ensures { λ r. ⌜ r ≡ timesOf p ⌝ }
@@ -51,7 +64,7 @@ pub fn times_of(p: Project) -> Times
     let o = p.options;
     Times {
         duration: o.duration,
-        hydraulic: o.hydraulic,
+        hydraulic: hydraulic_in_force(o.hydraulic),
         report: o.report,
         pattern: o.pattern,
         start_clock: o.start_clock,

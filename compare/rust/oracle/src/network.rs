@@ -78,7 +78,7 @@ fn options(project: &Project) -> SimulationOptions {
         pattern: options.default_pattern.checked_sub(1).map(|index| pattern_id(index as usize)),
         time_options: TimeOptions {
             duration: options.duration as usize,
-            hydraulic_timestep: options.hydraulic_timestep as usize,
+            hydraulic_timestep: hydraulic_in_force(options.hydraulic_timestep),
             report_timestep: options.report_timestep as usize,
             pattern_timestep: options.pattern_timestep as usize,
             pattern_start: options.pattern_start as usize,
@@ -87,6 +87,11 @@ fn options(project: &Project) -> SimulationOptions {
         demand_model: if options.pressure_driven { DemandModel::PDA } else { DemandModel::DDA },
         ..SimulationOptions::default()
     }
+}
+
+/// Document 02, R-7: "comparison runs give the Rust 3,600" where the field is 0.
+fn hydraulic_in_force(hydraulic_timestep: u32) -> usize {
+    if hydraulic_timestep == 0 { 3600 } else { hydraulic_timestep as usize }
 }
 
 fn add_node(network: &mut Network, index: usize, node: &Node) {
