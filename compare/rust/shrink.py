@@ -157,7 +157,7 @@ DROP = {
 
 
 PLAIN = {
-    Options: {"pattern_start": 0, "start_clock": 0, "hydraulic": 0, "multiplier": 1.0, "default_pattern": 0},
+    Options: {"pattern_start": 0, "start_clock": 0, "hydraulic": LONGEST_TIME, "multiplier": 1.0, "default_pattern": 0},
     Reservoir: {"elevation": 0.0, "pattern": 0},
     Tank: {"elevation": 0.0, "least": 0.0, "overflow": 0},
     Junction: {"disabled": 0, "elevation": 0.0},

@@ -1,11 +1,14 @@
 -- Document 02, R-7, of projects: what a field of 0 is now, and that every other project and every image rewritten for it steps as before. Assumes nothing.
 use Prim.Native.Nat.{ℕ, _/_, _<_}
-use mathlib.Core.Path.{_≡_, ap, _∙_}
+use mathlib.Core.Path.{_≡_, sym, ap, _∙_}
+use mathlib.Core.Bool.{true, cond}
 use native.Mathlib.Omega.{arith}
 use borrow.Author.Tests.{eq-eqb, ne-eqb}
 use Rattle.clock.specs.Triggers.{lengthAt}
 use Rattle.clock.specs.Demand3.{whole}
 use Rattle.clock.specs.declared.length.Times.{Times}
+use Rattle.clock.proofs.Tests.{eqb-ind}
+use Rattle.clock.proofs.Lengths.{length-fast}
 use Rattle.clock.proofs.Unbounded.{withHydraulic, length-unbounded}
 use Rattle.model.specs.declared.project.Project.{Project}
 use Rattle.model.specs.declared.state.State.{State}
@@ -57,14 +60,19 @@ module _ (p : Project) where
   field = p .options .hydraulic
 
   -- "From now on 0 is read as 3,600"
-  pub blank-is-an-hour : field ≡ 0 → timesOf p .hydraulic ≡ 3600
+  pub zero-is-an-hour : field ≡ 0 → timesOf p .hydraulic ≡ 3600
   unfolding timesOf hydraulicInForce
-  blank-is-an-hour e = rw (eq-eqb field 0 e)
+  zero-is-an-hour e = rw (eq-eqb field 0 e)
+
+  -- so no project has the 0 that is none to the clock
+  pub in-force-positive : 0 < timesOf p .hydraulic
+  unfolding timesOf hydraulicInForce
+  in-force-positive = eqb-ind (λ b. 0 < cond b 3600 field) field 0 (λ e. omega arith) (λ e. omega (arith, e))
 
   -- "The bound on steps counts whole hours where the field is 0"
   pub whole-hours : field ≡ 0 → whole (timesOf p .duration) (timesOf p .hydraulic) ≡ p .options .duration / 3600
   unfolding whole timesOf
-  whole-hours e = rw (blank-is-an-hour e)
+  whole-hours e = rw (zero-is-an-hour e)
 
   times-set : 0 < field → timesOf p ≡ timesBefore p
   unfolding timesOf hydraulicInForce
@@ -79,6 +87,13 @@ module _ (p : Project) where
     pub set-steps-as-before : 0 < field → nextHydraulicTimestep p s ≡ stepBefore p s
     unfolding lengthOf
     set-steps-as-before h = of-length (lengthBefore p s) (ap (λ o. lengthAt o (triggersOf p) (momentOf p s) (s .clock .instant)) (times-set h))
+
+    -- and so does every one on the fast path, whatever its field
+    pub fast-steps-as-before : onFastPath p ≡ true → nextHydraulicTimestep p s ≡ stepBefore p s
+    unfolding timesOf lengthOf
+    fast-steps-as-before f =
+        of-length (lengthBefore p s)
+        (length-fast (timesOf p) (triggersOf p) (momentOf p s) (s .clock .instant) f ∙ sym (length-fast (timesBefore p) (triggersOf p) (momentOf p s) (s .clock .instant) f))
 
     -- "Makers of images who relied on no bound write 315,360,000": every step of an accepted project is then what it was with the 0
     pub longest-steps-as-zero-before : TablesFit p → field ≡ 315360000 → nextHydraulicTimestep p s ≡ stepBefore (withZero p) s

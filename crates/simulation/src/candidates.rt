@@ -44,7 +44,7 @@ fn on_fast_path(p: Project) -> bool
     no_tanks(p)
 }
 
-// The seconds of the hydraulic timestep where its field is blank.
+// The seconds of the hydraulic timestep where its field is 0.
 const HOUR: u32 = 3600;
 
 // The hydraulic timestep in force, by the options' field.
