@@ -1,13 +1,13 @@
 -- Document 02, R-7, of projects: what a field of 0 is now, and that every other project and every image rewritten for it steps as before. Assumes nothing.
 use Prim.Native.Nat.{ℕ, _/_, _<_}
 use mathlib.Core.Path.{_≡_, sym, ap, _∙_}
-use mathlib.Core.Bool.{true, cond}
+use mathlib.Core.Bool.{true}
 use native.Mathlib.Omega.{arith}
 use borrow.Author.Tests.{eq-eqb, ne-eqb}
 use Rattle.clock.specs.Triggers.{lengthAt}
 use Rattle.clock.specs.Demand3.{whole}
 use Rattle.clock.specs.declared.length.Times.{Times}
-use Rattle.clock.proofs.Tests.{eqb-ind}
+use Rattle.clock.proofs.Tests.{lt-cases}
 use Rattle.clock.proofs.Lengths.{length-fast}
 use Rattle.clock.proofs.Unbounded.{withHydraulic, length-unbounded}
 use Rattle.model.specs.declared.project.Project.{Project}
@@ -64,11 +64,6 @@ module _ (p : Project) where
   unfolding timesOf hydraulicInForce
   zero-is-an-hour e = rw (eq-eqb field 0 e)
 
-  -- so no project has the 0 that is none to the clock
-  pub in-force-positive : 0 < timesOf p .hydraulic
-  unfolding timesOf hydraulicInForce
-  in-force-positive = eqb-ind (λ b. 0 < cond b 3600 field) field 0 (λ e. omega arith) (λ e. omega (arith, e))
-
   -- "The bound on steps counts whole hours where the field is 0"
   pub whole-hours : field ≡ 0 → whole (timesOf p .duration) (timesOf p .hydraulic) ≡ p .options .duration / 3600
   unfolding whole timesOf
@@ -77,6 +72,10 @@ module _ (p : Project) where
   times-set : 0 < field → timesOf p ≡ timesBefore p
   unfolding timesOf hydraulicInForce
   times-set h = rw (ne-eqb field 0 (λ e. omega (arith, h, e)))
+
+  -- no project has the 0 that is none to the clock
+  pub in-force-positive : 0 < timesOf p .hydraulic
+  in-force-positive = lt-cases 0 field (λ h. rw (times-set h) h) (λ l. rw (zero-is-an-hour (omega (arith, l))) (omega arith))
 
   module _ (s : State) where
     of-length : (n : ℕ) → lengthOf p s ≡ n → nextHydraulicTimestep p s ≡ record { length = n; state = movedBy p s n }
