@@ -22,6 +22,7 @@ for place in ("compare", "compare/rust", "stock", "tools"):
 import driver_cases  # noqa: E402
 import image_text  # noqa: E402
 import images  # noqa: E402
+import planes  # noqa: E402
 import works  # noqa: E402
 
 
@@ -63,6 +64,11 @@ class StoredCases(unittest.TestCase):
             subprocess.run(command, check=True, capture_output=True)
             for name, content in files(pathlib.Path(folder)).items():
                 self.assertEqual((CRATES / "handed_in" / name).read_bytes(), content, name)
+
+    def test_planes_cases(self):
+        made = planes.script()
+        self.assertEqual((CRATES / "planes_cases" / "stdin").read_bytes(), made.program_input())
+        self.assertEqual((CRATES / "planes_cases" / "stdout").read_text(), made.expected_output())
 
     def test_driver_cases(self):
         """The inputs; the answers are the Rust's, but those to the stock stand there as its listings too."""

@@ -482,11 +482,16 @@ class Readme(unittest.TestCase):
         return re.findall(rf"^```{language}\n(.*?)^```$", self.TEXT, re.DOTALL | re.MULTILINE)
 
     def test_the_commands_print_what_stands_below_them(self):
-        (block,) = self.blocks("console")
-        for shown in block.removeprefix("$ ").split("\n$ "):
-            command, _, expected = shown.partition("\n")
-            done = subprocess.run(["sh", "-c", command], cwd=TOOL.parent.parent, capture_output=True, check=False)
-            self.assertEqual((done.stdout.decode().rstrip("\n"), done.stderr), (expected.rstrip("\n"), b""), command)
+        shown = [one for block in self.blocks("console") for one in block.removeprefix("$ ").split("\n$ ")]
+        self.assertGreater(len(shown), 10)
+        # A folder of their own, since some leave files.
+        with tempfile.TemporaryDirectory() as folder:
+            for name in ("tools", "stock"):
+                pathlib.Path(folder, name).symlink_to(TOOL.parent.parent / name)
+            for command, _, expected in (one.partition("\n") for one in shown):
+                pipes = {"stdout": subprocess.PIPE, "stderr": subprocess.STDOUT}
+                done = subprocess.run(["sh", "-c", command], cwd=folder, **pipes, check=False)
+                self.assertEqual(done.stdout.decode().rstrip("\n"), expected.rstrip("\n"), command)
 
     def test_the_pieces_of_text_make_an_accepted_works(self):
         text = "".join(self.blocks("text"))

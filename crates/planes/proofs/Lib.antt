@@ -1,0 +1,4 @@
+pub mod Places
+pub mod Turned
+pub mod Passes
+pub mod Stored
