@@ -2,3 +2,4 @@ pub mod Places
 pub mod Turned
 pub mod Passes
 pub mod Stored
+pub mod Examples

@@ -12,6 +12,9 @@ const MOST_ROWS: usize = 512;
 // The bytes of a row, and so the planes of a block.
 const ROW: usize = 8;
 
+// The number where the rows or a buffer's size are not right.
+const REFUSED: u32 = 13;
+
 // Whether there are 1 to 512 rows, and both buffers have 8 bytes for each.
 fn fit(rows: usize, from: usize, into: usize) -> bool
     ensures { λ r. ⌜ r ≡ sized rows from into ⌝ }
@@ -53,17 +56,16 @@ fn turn(from: &[u8], into: &mut [u8], w: usize, n: usize)
     }
 }
 
-// The block in planes, in a second buffer. Answers 0, or 13 where the sizes are not right, and the second buffer is then as it was.
+// The block in planes, in a second buffer. Answers 0, or 13, and the second buffer is then as it was.
 pub fn to_planes(rows: usize, block: &[u8], planes: &mut [u8]) -> u32
     ensures { λ r. ⌜ r ≡ planesNumber rows (length (now (block .entry))) (length (now (planes .entry))) ⌝ }
     ensures { λ _. ⌜ now (planes .exit) ≡ written toPlanes rows (now (block .entry)) (now (planes .entry)) ⌝ }
 {
-    let ok = fit(rows, block.len(), planes.len());
-    if ok {
-        turn(block, planes, ROW, rows);
-        return 0;
+    if !fit(rows, block.len(), planes.len()) {
+        return REFUSED;
     }
-    13
+    turn(block, planes, ROW, rows);
+    0
 }
 
 // The block back out of its planes. Answers as to_planes does.
@@ -71,10 +73,9 @@ pub fn from_planes(rows: usize, planes: &[u8], block: &mut [u8]) -> u32
     ensures { λ r. ⌜ r ≡ planesNumber rows (length (now (planes .entry))) (length (now (block .entry))) ⌝ }
     ensures { λ _. ⌜ now (block .exit) ≡ written fromPlanes rows (now (planes .entry)) (now (block .entry)) ⌝ }
 {
-    let ok = fit(rows, planes.len(), block.len());
-    if ok {
-        turn(planes, block, rows, ROW);
-        return 0;
+    if !fit(rows, planes.len(), block.len()) {
+        return REFUSED;
     }
-    13
+    turn(planes, block, rows, ROW);
+    0
 }

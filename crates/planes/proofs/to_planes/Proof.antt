@@ -1,6 +1,7 @@
--- `planes::to_planes` meets its contract: where the sizes are right `turn` has done it, and else nothing is touched. Assumes nothing.
+-- `planes::to_planes` meets its contract: where the sizes are not right nothing is touched, and else `turn` has done it. Assumes nothing.
 use mathlib.Core.Path.{refl, sym, _∙_}
 use borrow.Author.Needs.{needs}
+use borrow.Author.Tests.{not-true, not-false}
 use lib.ListN.{length}
 use Rattle.planes.specs.Planes.{planesNumber, written}
 use Rattle.planes.proofs.Stored.{sized-is}
@@ -10,21 +11,21 @@ use Rattle.planes.proofs.to_planes.Tie as tie
 fit-requires : tie.Need-fit-requires
 fit-requires c κs = search needs
 
+returns : tie.Need-returns
+unfolding planesNumber written
+returns c = rw (← c .before .fit .ensures, not-true (c .before .fit .result) (c .if1 .taken)) (refl, refl)
+
 turn-requires : tie.Need-turn-requires
 turn-requires c κs =
     let a = c .before .before .before .before .before .args in
-    sized-is (a .rows) (length (a .block .now)) (length (a .planes .now)) (sym (c .before .before .fit .ensures) ∙ c .before .if1 .taken)
+    sized-is (a .rows) (length (a .block .now)) (length (a .planes .now)) (sym (c .before .before .fit .ensures) ∙ not-false _ (c .before .if1 .left))
 
 same-length : tie.Need-same-length
 same-length c = search needs
 
-returns : tie.Need-returns
-unfolding planesNumber written
-returns c = rw (← c .before .before .before .before .before .fit .ensures, c .before .before .before .before .if1 .taken) (refl, c .before .before .turn .ensures)
-
 returns-2 : tie.Need-returns-2
 unfolding planesNumber written
-returns-2 c = rw (← c .before .fit .ensures, c .if1 .left) (refl, refl)
+returns-2 c = rw (← c .before .before .before .before .before .fit .ensures, not-false (c .before .before .before .before .before .fit .result) (c .before .before .before .before .if1 .left)) (refl, c .before .before .turn .ensures)
 
 pub to-planes-spec : {M : Type 1} → statement M
-to-planes-spec = tie.close (tie.spec fit-requires turn-requires same-length returns returns-2)
+to-planes-spec = tie.close (tie.spec fit-requires returns turn-requires same-length returns-2)
