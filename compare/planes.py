@@ -18,7 +18,7 @@ from planes_turn import ROW, from_planes, to_planes  # noqa: E402
 ROWS = (0, 1, 2, 511, 512, 513)
 # Of the rows that are accepted, those with a buffer a byte short or long.
 WRONG_SIZES_AT = (1, 2, 512)
-# Rows whose 8 bytes each are so many in 32 or in 64 bits, and the greatest.
+# Rows that pass for none or one where they, or their bytes, are cut to 32 or 64 bits; and the greatest. Each with a size to go with it.
 WRAPPING = ((2**29 + 1, 8), (2**32 + 1, 8), (2**61, 0), (2**61 + 1, 8), (2**64 - 1, 8))
 
 # Results that no arithmetic leaves alone: NaNs with payloads, quiet, signalling and negative; infinities, -0.0, the least and the greatest.
@@ -54,15 +54,15 @@ class Script:
     def to_planes(self, rows, times=1):
         number, self.planes = to_planes(rows, self.block, self.planes)
         self.orders.append(struct.pack("<IQI", 3, rows, times))
-        self.print("to planes", rows, self.block, self.planes, number)
+        self.print("to", rows, self.block, self.planes, number)
 
     def from_planes(self, rows, times=1):
         number, self.block = from_planes(rows, self.planes, self.block)
         self.orders.append(struct.pack("<IQI", 4, rows, times))
-        self.print("from planes", rows, self.planes, self.block, number)
+        self.print("from", rows, self.planes, self.block, number)
 
     def print(self, call, rows, first, second, number):
-        self.printed += [f"{call}, {rows} rows, {len(first)} and {len(second)} bytes: {number}", second.hex()]
+        self.printed += [f"{call} planes, rows {rows}, bytes {len(first)} and {len(second)}: {number}", second.hex()]
 
     def program_input(self):
         return struct.pack("<I", len(self.orders)) + b"".join(self.orders)
@@ -81,7 +81,7 @@ def round_trip(script, rows, block):
 
 
 def both_calls(script, rows, first, second, times=1):
-    """Each call on buffers of these sizes, the second of which is to come back untouched if it is refused."""
+    """Each call on buffers of these sizes, the second of which is to come back untouched if the call is refused."""
     script.lend_block(counted(first))
     script.lend_planes(untouched(second))
     script.to_planes(rows, times)

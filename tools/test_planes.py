@@ -10,7 +10,7 @@ import unittest
 TOOL = pathlib.Path(__file__).resolve().parent / "planes"
 PROGRAM = TOOL.parent.parent / "crates" / "planes_cases"
 COMMANDS = {3: "to", 4: "from"}
-ANSWER = re.compile(r"(to|from) planes, (\d+) rows, (\d+) and (\d+) bytes: (\d+)\n([0-9a-f]*)\n")
+ANSWER = re.compile(r"(to|from) planes, rows (\d+), bytes (\d+) and (\d+): (\d+)\n([0-9a-f]*)\n")
 
 
 def orders():

@@ -1,11 +1,14 @@
 // Puts blocks in planes and back as standard input says, and prints the number of each call and what the second buffer holds after it.
 // The input is a count of orders, and the orders, in words of 32 bits: 1 or 2, a count and that many bytes, which are from then on the block
-// or the planes; 3 (to planes) or 4 (from planes), the low and high word of the rows, and how often the call is made, at least once.
+// or the planes; 3 (to planes) or 4 (from planes), the low and high word of the rows, and how often the call is made, at least once. Any other
+// word is passed over.
 // `compare/planes.py` makes the input and what has to come out.
 use libc::STDIN_FILENO;
 use libc::STDOUT_FILENO;
 
 const TO_PLANES: u32 = 3;
+
+const FROM_PLANES: u32 = 4;
 
 // How many bytes at the start of each buffer are lent to a call.
 struct Sizes {
@@ -49,12 +52,13 @@ fn print_bytes(bytes: &[u8]) {
 
 // The rows, both sizes and the number of a call, and on a line of its own what the second buffer holds.
 fn print_answer(rows: usize, first: usize, second: &[u8], number: u32) {
+    io::write_all(STDOUT_FILENO, b" planes, rows ");
     io::print_decimal(STDOUT_FILENO, rows as u64);
-    io::write_all(STDOUT_FILENO, b" rows, ");
+    io::write_all(STDOUT_FILENO, b", bytes ");
     io::print_decimal(STDOUT_FILENO, first as u64);
     io::write_all(STDOUT_FILENO, b" and ");
     io::print_decimal(STDOUT_FILENO, second.len() as u64);
-    io::write_all(STDOUT_FILENO, b" bytes: ");
+    io::write_all(STDOUT_FILENO, b": ");
     io::print_decimal(STDOUT_FILENO, number as u64);
     io::write_all(STDOUT_FILENO, b"\n");
     print_bytes(second);
@@ -84,10 +88,10 @@ fn run_call(code: u32, block: &mut [u8], planes: &mut [u8]) {
     let times = read_word();
     let number = repeated(code, rows, times, block, planes);
     if code == TO_PLANES {
-        io::write_all(STDOUT_FILENO, b"to planes, ");
+        io::write_all(STDOUT_FILENO, b"to");
         print_answer(rows, block.len(), planes, number);
     } else {
-        io::write_all(STDOUT_FILENO, b"from planes, ");
+        io::write_all(STDOUT_FILENO, b"from");
         print_answer(rows, planes.len(), block, number);
     }
 }
@@ -113,7 +117,7 @@ fn run_order(block: &mut [u8], planes: &mut [u8], sizes: Sizes) -> Sizes {
         after.block = read_buffer(block);
     } else if code == 2 {
         after.planes = read_buffer(planes);
-    } else {
+    } else if (code == TO_PLANES) | (code == FROM_PLANES) {
         lend(code, block, planes, sizes);
     }
     after

@@ -68,7 +68,7 @@ fn answer(
     for _ in 1..times {
         number = call(black_box(rows), black_box(first), black_box(second));
     }
-    writeln!(out, "{name}, {rows} rows, {} and {} bytes: {number}", first.len(), second.len())?;
+    writeln!(out, "{name}, rows {rows}, bytes {} and {}: {number}", first.len(), second.len())?;
     for byte in second {
         write!(out, "{byte:02x}")?;
     }
