@@ -1,18 +1,21 @@
 #!/usr/bin/env python3
 """The input of the program `planes_cases`: blocks put in planes and back, and what document 02 says of each call.
 
-  planes.py --out FOLDER    writes FOLDER/stdin and FOLDER/stdout
+  planes.py --out FOLDER                  writes FOLDER/stdin and FOLDER/stdout
+  planes.py --every PROGRAM [--seed 1]    has the program put blocks of every number of rows in planes and back
 
-The answers are worked out by tools/planes_turn.py.
+The answers are worked out by tools/planes_turn.py. The bytes of the second are random.
 """
 import argparse
 import pathlib
+import random
 import struct
+import subprocess
 import sys
 
 sys.path.append(str(pathlib.Path(__file__).resolve().parent.parent / "tools"))
 
-from planes_turn import ROW, from_planes, to_planes  # noqa: E402
+from planes_turn import MOST_ROWS, ROW, from_planes, to_planes  # noqa: E402
 
 # "no rows, more than 512"
 ROWS = (0, 1, 2, 511, 512, 513)
@@ -117,12 +120,44 @@ def script(made=None):
     return made
 
 
-def main():
-    parser = argparse.ArgumentParser(description=__doc__, formatter_class=argparse.RawDescriptionHelpFormatter)
-    parser.add_argument("--out", required=True, type=pathlib.Path)
-    out, made = parser.parse_args().out, script()
+def every_number_of_rows(seed):
+    """Both calls on random bytes, with every number of rows that is accepted."""
+    made, source = Script(), random.Random(seed)
+    for rows in range(1, MOST_ROWS + 1):
+        made.lend_block(source.randbytes(ROW * rows))
+        made.lend_planes(untouched(ROW * rows))
+        made.to_planes(rows)
+        made.lend_block(untouched(ROW * rows))
+        made.lend_planes(source.randbytes(ROW * rows))
+        made.from_planes(rows)
+    return made
+
+
+def write(out):
+    made = script()
     (out / "stdin").write_bytes(made.program_input())
     (out / "stdout").write_text(made.expected_output(), encoding="utf-8")
+
+
+def compare(program, seed):
+    made = every_number_of_rows(seed)
+    printed = subprocess.run([program], input=made.program_input(), capture_output=True, check=True).stdout
+    if printed != made.expected_output().encode():
+        sys.exit(f"{program}: another answer")
+    print(f"alike: {len(made.printed) // 2} calls")
+
+
+def main():
+    parser = argparse.ArgumentParser(description=__doc__, formatter_class=argparse.RawDescriptionHelpFormatter)
+    asked = parser.add_mutually_exclusive_group(required=True)
+    asked.add_argument("--out", type=pathlib.Path, metavar="FOLDER")
+    asked.add_argument("--every", metavar="PROGRAM")
+    parser.add_argument("--seed", type=int, default=1)
+    arguments = parser.parse_args()
+    if arguments.out:
+        write(arguments.out)
+    else:
+        compare(arguments.every, arguments.seed)
 
 
 if __name__ == "__main__":

@@ -1,6 +1,9 @@
 """Checks of the orders that `planes_cases` is run on: python3 -m unittest discover -s compare"""
 import math
+import pathlib
 import struct
+import subprocess
+import sys
 import unittest
 
 import planes
@@ -62,6 +65,18 @@ class Orders(unittest.TestCase):
         numbers = [pair for block in blocks for pair in zip(struct.iter_unpack("<Q", block), struct.iter_unpack("<d", block))]
         payloads = {bits % 2**52 for (bits,), (number,) in numbers if math.isnan(number)}
         self.assertGreater(len(payloads), 500)
+
+
+class EveryNumberOfRows(unittest.TestCase):
+    def test_each_stands_once_for_each_call(self):
+        told = planes.every_number_of_rows(1).printed[::2]
+        rows = [f"rows {rows}, bytes {ROW * rows} and {ROW * rows}: 0" for rows in range(1, 513)]
+        self.assertEqual(told, [f"{call} planes, {one}" for one in rows for call in ("to", "from")])
+
+    def test_a_program_that_prints_something_else_is_named(self):
+        command = [sys.executable, pathlib.Path(planes.__file__), "--every", "cat"]
+        done = subprocess.run(command, capture_output=True, check=False)
+        self.assertEqual((done.returncode, done.stdout, done.stderr), (1, b"", b"cat: another answer\n"))
 
 
 if __name__ == "__main__":
