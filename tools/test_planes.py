@@ -10,6 +10,7 @@ import unittest
 TOOL = pathlib.Path(__file__).resolve().parent / "planes"
 PROGRAM = TOOL.parent.parent / "crates" / "planes_cases"
 COMMANDS = {3: "to", 4: "from"}
+FULL = pathlib.Path("/dev/full")
 ANSWER = re.compile(r"(to|from) planes, rows (\d+), bytes (\d+) and (\d+): (\d+)\n([0-9a-f]*)\n")
 
 
@@ -146,10 +147,11 @@ class Errors(Command):
     def test_a_folder(self):
         self.assert_fails(self.run_tool("show", "."), 2, ".: Is a directory\n")
 
+    @unittest.skipUnless(FULL.exists(), "there is no device that is always full")
     def test_standard_output_that_is_full(self):
         self.file("block", bytes(8))
         for words in (["to", "block", "-"], ["show", "block"]):
-            with open("/dev/full", "wb") as full:
+            with FULL.open("wb") as full:
                 done = subprocess.run([sys.executable, TOOL, *words], cwd=self.folder, stdout=full, stderr=subprocess.PIPE)
             self.assertEqual((done.returncode, done.stderr), (2, b"standard output: No space left on device\n"))
 
