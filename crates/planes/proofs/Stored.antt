@@ -1,5 +1,5 @@
--- The fact of R-9: for every number of rows each way undoes the other, and two blocks that store alike are one block. And the same of
--- the calls: what `to_planes` has put in planes `from_planes` restores.
+-- The fact of R-9: for every number of rows each way undoes the other, and two blocks that store alike are one block. And both of the calls:
+-- what `to_planes` has put in planes `from_planes` restores, and what it has left alike it was given as one block.
 -- Assumes nothing.
 use mathlib.Core.Path.{_≡_, refl, sym, ap, subst, _∙_}
 use mathlib.Core.Bool.{Bool, true, false, cond, _&&_}
@@ -10,7 +10,7 @@ use native.Mathlib.Omega.{arith}
 use lib.Dec.{T, eqb, eqb→eq}
 use lib.Ieee.Fits.{and-l, and-r}
 use lib.ListN.{length}
-use Rattle.planes.specs.Planes.{turned, toPlanes, fromPlanes, rowsOk, sized, planesNumber, written}
+use Rattle.planes.specs.Planes.{toPlanes, fromPlanes, rowsOk, sized, planesNumber, written}
 use Rattle.planes.proofs.Turned.{length-turned, round}
 
 -- "Both are one fact over the number of rows, and two blocks that store alike are one block."

@@ -1,14 +1,14 @@
 -- Rows turned to planes: how many bytes they are, which byte stands where, that any list with each byte there is the rows turned, and that
 -- turned back they are the rows. All of it for every number of rows, and of bytes in a row.
 -- Assumes nothing.
-use mathlib.Core.Path.{_≡_, sym, ap, _∙_}
+use mathlib.Core.Path.{_≡_, sym, _∙_}
 use mathlib.Core.List.{List}
 use Prim.Native.Nat.{ℕ, zero, suc, _+_, _*_, _/_, _%_, _<_}
 use native.Mathlib.Nat.{mod-lt, div-lt-iff-lt-mul, mul-comm, mul-zero, div-add-mod, not-suc-le-zero}
 use native.Mathlib.Omega.{arith}
 use lib.ListN.{length, getD}
 use lib.Seq.{ext-getD}
-use Rattle.planes.specs.Planes.{plane, turned}
+use Rattle.planes.specs.Planes.{turned}
 use Rattle.planes.proofs.Places.{length-listOf, getD-listOf, length-joined, getD-joined}
 
 pub length-turned : (w n : ℕ) (from : List ℕ) → length (turned w n from) ≡ w * n

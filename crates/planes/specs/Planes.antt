@@ -16,11 +16,11 @@ unfoldable pub joined : ℕ → (ℕ → List ℕ) → List ℕ
 joined zero f = []
 joined (suc n) f = joined n f ++ f n
 
--- of n rows of w bytes, that byte of each
+-- of n rows of w bytes, one byte of each, in the order of the rows
 abbrev pub plane : ℕ → ℕ → ℕ → List ℕ → List ℕ
 plane w n byte from = listOf n (λ (row : ℕ). getD from (w * row + byte) 0)
 
--- n rows of w bytes, plane by plane
+-- n rows of w bytes, plane by plane: the first byte of each row, then the second of each, up to the last
 unfoldable pub turned : ℕ → ℕ → List ℕ → List ℕ
 turned w n from = joined w (λ (byte : ℕ). plane w n byte from)
 
@@ -28,7 +28,7 @@ turned w n from = joined w (λ (byte : ℕ). plane w n byte from)
 abbrev pub toPlanes : ℕ → List ℕ → List ℕ
 toPlanes rows block = turned 8 rows block
 
--- "The inverse restores it": of 8 planes of as many bytes as there are rows, the first byte of each, then the second of each, up to the last
+-- "The inverse restores it": the 8 planes are turned as 8 rows of as many bytes as there are numbers
 abbrev pub fromPlanes : ℕ → List ℕ → List ℕ
 fromPlanes rows planes = turned rows 8 planes
 
@@ -36,7 +36,7 @@ fromPlanes rows planes = turned rows 8 planes
 abbrev pub rowsOk : ℕ → Bool
 rowsOk rows = not (eqb rows 0) && leb rows 512
 
--- "or either buffer of the wrong size": "Buffers are sized exactly"
+-- "or either buffer of the wrong size", the one that is read and the one that is written: "Buffers are sized exactly"
 abbrev pub sized : ℕ → ℕ → ℕ → Bool
 sized rows from into = rowsOk rows && eqb from (8 * rows) && eqb into (8 * rows)
 
