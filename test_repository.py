@@ -90,6 +90,17 @@ class Sources(unittest.TestCase):
         asked = re.findall(r"ComparisonOperator::(\w+) =>", body)
         self.assertEqual(asked, ["Eq", "Ne", "Lt", "Gt", "Le", "Ge"])
 
+    def test_the_second_clock_shares_no_arithmetic(self):
+        """R-10: of other crates it has types, what reads the tables, and the judgement; no function works out a step."""
+        sources = [path.read_text() for path in sorted((CRATES / "second_clock" / "src").glob("*.rt"))]
+        code = re.sub(r"^ghost .*|//.*", "", "\n".join(sources), flags=re.M)
+        named = {name for name in re.findall(r"^use ([\w:*]+);", code, re.M) if not name.startswith("crate::")}
+        types = {"calls::StepCalled", "clock::Clock", "clock::Times", "model::*"}
+        self.assertEqual(named - types, {"judge::in_order", "simulation::no_tanks", "simulation::times_of"})
+        # Nothing else by its path, and no method: those of Clock and Times are the driver's arithmetic.
+        self.assertEqual(re.findall(r"\b[a-z_]+::[a-z_]+\(", code), [])
+        self.assertEqual(re.findall(r"\.\w+\(", code), [])
+
 
 class Documents(unittest.TestCase):
     """What the documents name is there."""

@@ -1,4 +1,4 @@
-"""Checks of the generated cases' text: python3 -m unittest discover -s compare"""
+"""Checks of the generated cases' text, and of the second clock's walk: python3 -m unittest discover -s compare"""
 import pathlib
 import struct
 import subprocess
@@ -8,6 +8,9 @@ import unittest
 RUST = pathlib.Path(__file__).resolve().parent / "rust"
 sys.path.insert(0, str(RUST))
 import generate  # noqa: E402
+from image import DAY, LONGEST_TIME, SKIP, Options, Project, Tank  # noqa: E402
+from steps import Levels, causes  # noqa: E402
+from walk import refusals, walk  # noqa: E402
 
 sys.path.insert(0, str(RUST.parent.parent / "tools"))
 import image_text  # noqa: E402
@@ -27,7 +30,7 @@ class Texts(unittest.TestCase):
                 self.assertEqual(assembled(case), case.input(), f"{kind} {seed}")
 
     def test_the_image_of_a_replay_comes_back_and_its_calls_are_comments(self):
-        for kind in ("replay", "edge", "hours"):
+        for kind in ("replay", "edge", "hours", "slow"):
             for seed in SEEDS:
                 case = generate.CASES[kind](seed)
                 words = case.project.words()
@@ -52,6 +55,32 @@ class Texts(unittest.TestCase):
         text = subprocess.run([*command, "--text"], capture_output=True, check=True).stdout.decode()
         data = subprocess.run(command, capture_output=True, check=True).stdout
         self.assertEqual(image_text.assemble(text).data(counted=True), data)
+
+
+class SecondClock(unittest.TestCase):
+    """Document 02, R-10, in Python alone: coverage.py holds the Rust's answers to the same walk."""
+
+    def test_it_walks_as_far_as_the_drivers_step(self):
+        projects = [case.project for case in map(generate.slow_case, range(1, 61)) if not refusals(case.project)]
+        self.assertGreater(len(projects), 30)
+        for project in projects:
+            for start in (0, 1, DAY - 1, project.options.duration - 1, project.options.duration):
+                if 0 <= start <= project.options.duration:
+                    step = min(causes(project, Levels(start, [], [])).values())
+                    self.assertEqual(walk(project, start)[0], step, f"from {start}: {project}")
+
+    def test_it_refuses_tanks_the_fast_path_and_three_timesteps_above_a_day(self):
+        above = DAY + 1
+        for reasons, project in (
+            ([], Project(Options(hydraulic=DAY, report=above, pattern=above))),
+            ([], Project(Options(hydraulic=above, report=DAY, pattern=above))),
+            ([], Project(Options(hydraulic=above, report=above, pattern=DAY))),
+            ([], Project(Options(hydraulic=0, report=LONGEST_TIME, pattern=LONGEST_TIME))),
+            (["timesteps"], Project(Options(hydraulic=above, report=above, pattern=above))),
+            (["fast path"], Project(Options(flags=SKIP))),
+            (["tank"], Project(Options(flags=SKIP), nodes=[Tank()])),
+        ):
+            self.assertEqual(refusals(project), reasons, project)
 
 
 if __name__ == "__main__":

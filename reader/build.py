@@ -111,7 +111,7 @@ def follow(command, root, log, progress):
 def build(root, programs, say):
     """Proves and builds programs of the repository; answers their paths."""
     if not shutil.which("rt"):
-        raise Failure("there is no rt on the PATH: the Rattle toolchain builds the driver")
+        raise Failure("there is no rt on the PATH: the Rattle toolchain builds the programs")
     paths = [root / "target" / "bin" / name for name in programs]
     crates = len(reached((root / "crates.txt").read_text(), programs))
     progress = Progress(programs, crates, not all(path.exists() for path in paths), say, time.monotonic)

@@ -9,12 +9,11 @@ from dataclasses import dataclass
 
 import image_decode
 
-from reader import ROOT, build, picture, programs, states, works
+from reader import ROOT, build, picture, programs, slow, states, works
 from reader.events import Events
 from reader.failure import REFUSED, Failure
 from reader.interruption import INTERRUPTION, Interrupted
 from reader.listing import Listing, timed
-from reader.network import Network
 from reader.timeline import Timeline
 
 USAGE = """\
@@ -29,6 +28,9 @@ USAGE = """\
   --events             in place of the listing what happens, a line for each time: elapsed h:mm:ss, and the day and the
                        time of day where the run begins at another time than 0:00 or is longer than a day
   --picture FILE.svg   draws the run too: levels, pumps and valves, control instants, steps
+  --slow               the listing by the second clock, which walks a second at a time, in place of the driver; it does
+                       not serve works with tanks, on the fast path, or with every timestep above a day: refused 14
+  --causes             with --slow, and behind each step what calls for the stop at its end
   --list               the works of the stock, one line each
   --help               this text
 
@@ -49,6 +51,8 @@ class Asked:
     times: bool = False
     events: bool = False
     picture: str = None
+    slow: bool = False
+    causes: bool = False
     list: bool = False
     help: bool = False
 
@@ -68,7 +72,7 @@ def parse(arguments):
     asked, left = Asked(), list(arguments)
     while left:
         word = left.pop(0)
-        if word in ("--times", "--events", "--list", "--help"):
+        if word in ("--times", "--events", "--slow", "--causes", "--list", "--help"):
             setattr(asked, word[2:], True)
         elif word == "-h":
             asked.help = True
@@ -80,11 +84,19 @@ def parse(arguments):
             raise wrong(f"one works at a time, and {word} is one more than {asked.works}")
         else:
             asked.works = word
-    if asked.times and asked.events:
-        raise wrong("--times and --events are two answers: ask for one")
+    judge(asked)
+    return asked
+
+
+def judge(asked):
+    """Whether the options go together."""
+    for one, other in (("times", "events"), ("slow", "events"), ("slow", "picture")):
+        if getattr(asked, one) and getattr(asked, other):
+            raise wrong(f"--{one} and --{other} are two answers: ask for one")
+    if asked.causes and not asked.slow:
+        raise wrong("--causes goes with --slow only")
     if asked.list and asked.works is not None:
         raise wrong(f"--list is of the whole stock, and {asked.works} is one word more")
-    return asked
 
 
 def picture_file(word, left):
@@ -108,45 +120,62 @@ def answer(asked):
         return 0
     item = works.find("netherbeck" if asked.works is None else asked.works)
     with_states = asked.events or asked.picture is not None
-    driver, *replay = build.build(ROOT, ["driver", "replay"] if with_states else ["driver"], say)
+    names = ["replay"] if asked.slow else ["driver", "replay"] if with_states else ["driver"]
+    first, *rest = build.build(ROOT, names, say)
     if asked.times or asked.events:
         print(item.title)
-    listed = list_steps(driver, item, asked)
+    lines = slow.listing(first, item) if asked.slow else driver_listing(first, item)
+    listed = list_steps(lines, item, asked)
     reason = explain(item, listed.refused) if listed.refused else ""
     if with_states and listed.accepted:
-        show_run(replay[0], item, listed, reason, asked)
+        show_run(rest[0], item, listed, reason, asked)
     return REFUSED if listed.refused else 0
 
 
-def list_steps(driver, item, asked):
-    """Runs the driver, prints its listing where no events stand in its place, and answers what it says."""
-    listed = Listing()
+def driver_listing(driver, item):
     with closing(programs.lines(driver, item.data)) as lines:
-        for line in map(bytes.decode, lines):
+        yield from map(bytes.decode, lines)
+
+
+def list_steps(lines, item, asked):
+    """Takes the lines of a listing, prints them where no events stand in their place, and answers what they say."""
+    listed = Listing()
+    with closing(lines):
+        for line in lines:
             listed.take(line)
-            if asked.times and listed.accepted:
-                print(timed(line, works.start_clock(item.data)))
-            elif not (asked.events and listed.accepted):
-                print(line)
+            if not (asked.events and listed.accepted):
+                print(shown(line, item, listed, asked))
     listed.judge_end()
     return listed
 
 
+def shown(line, item, listed, asked):
+    """The last line that was taken, with what is asked for beside it."""
+    told = timed(line, works.start_clock(item.data)) if asked.times and listed.accepted else line
+    if asked.causes and line[0].isdigit():
+        told += f"  {slow.causes(item.network, *listed.steps[-1])}"
+    return told
+
+
 def explain(item, number):
-    """Says on standard error why the driver refuses, and answers it."""
+    """Says on standard error why a works is refused, and answers it."""
     sys.stdout.flush()
-    fault = image_decode.judge(item.data, item.names)
-    reason = str(fault)
-    if fault is None or fault.number != number:
-        reason = f"refused {number}: and tools/image_decode.py, which has the reasons, says {reason}"
+    reason = slow.reason(item.network) if number == slow.NOT_SERVED else fault_of(item, number)
     say(reason)
     return reason
 
 
+def fault_of(item, number):
+    """The fault of the driver's input that a program refuses with a number."""
+    fault = image_decode.judge(item.data, item.names)
+    if fault is None or fault.number != number:
+        return f"refused {number}: and tools/image_decode.py, which has the reasons, says {fault}"
+    return str(fault)
+
+
 def show_run(replay, item, listed, reason, asked):
     """Prints the events of a run and draws its picture, as asked."""
-    tables = image_decode.decode(item.image_words())
-    network = Network(tables, item.names)
+    network, tables = item.network, item.network.tables
     with closing(programs.lines(replay, states.input_of(item.data, tables, listed))) as lines:
         run = states.Run(lines, item.data, tables, listed)
         events, timeline = Events(network, run.start, reason), Timeline(network, run.start)

@@ -16,6 +16,22 @@ def moving(demand):
     return "rising" if demand > 0 else "falling" if demand < 0 else "standing"
 
 
+def condition(network, control):
+    """When a control is active, in words."""
+    subject = control["node or seconds"]
+    if control["condition"] == TIME:
+        return f"at {elapsed(subject)} of the run"
+    if control["condition"] == CLOCK:
+        return f"at {clock(subject)}"
+    side = "above" if control["condition"] == HIGH_LEVEL else "below"
+    return f"{network.node_name(subject)} at or {side} {feet(control['target'])}"
+
+
+def by_control(network, number, control):
+    """The control that something is due to."""
+    return f"control {number}: {condition(network, control)}"
+
+
 class Moment:
     """What happens at one time, and the levels of the tanks that it is about."""
 
@@ -86,7 +102,7 @@ class Events:
         """What controls change, and the levels of the tanks that they watch as they find them."""
         for link in changed(turn.patterned, turn.controlled):
             by = list(self.switching(link, turn))
-            reasons = ", ".join(f"control {number}: {self.condition(control)}" for number, control in by)
+            reasons = ", ".join(by_control(self.network, number, control) for number, control in by)
             change = self.change(link, turn.patterned, turn.controlled)
             moment.said.append(f"{self.network.link_name(link)} {change} ({reasons})")
             for number, control in by:
@@ -105,15 +121,6 @@ class Events:
             old, now = getattr(before, part)[link], getattr(after, part)[link]
             if control["flags"] and old != now == new:
                 yield number, control
-
-    def condition(self, control):
-        subject = control["node or seconds"]
-        if control["condition"] == TIME:
-            return f"at {elapsed(subject)} of the run"
-        if control["condition"] == CLOCK:
-            return f"at {clock(subject)}"
-        side = "above" if control["condition"] == HIGH_LEVEL else "below"
-        return f"{self.network.node_name(subject)} at or {side} {feet(control['target'])}"
 
     def change(self, link, before, after):
         """What changes at a link, in words."""

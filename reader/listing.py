@@ -5,6 +5,7 @@ from dataclasses import dataclass, field
 from reader.failure import DIED, Failure
 
 DAY = 86_400  # seconds
+HEADER = "from length"
 
 
 def clock(seconds):

@@ -74,13 +74,17 @@ class Network:
             if control["condition"] in (HIGH_LEVEL, LOW_LEVEL) and control["node or seconds"] == tank
         ]
 
+    def is_due(self, control, instant):
+        """Whether a time control's seconds are those of the run, or a clock control's those of the day."""
+        if control["condition"] == CLOCK:
+            instant = (instant + self.start_clock) % DAY
+        return control["node or seconds"] == instant
+
     def is_active(self, control, state):
         """Module 5, and module 7: pressure controls are passed over; level controls too at time 0."""
         condition, subject = control["condition"], control["node or seconds"]
-        if condition == TIME:
-            return subject == state.instant
-        if condition == CLOCK:
-            return subject == (state.instant + self.start_clock) % DAY
+        if condition in (TIME, CLOCK):
+            return self.is_due(control, state.instant)
         if condition not in (HIGH_LEVEL, LOW_LEVEL) or subject not in self.tanks or state.instant == 0:
             return False
         over = self.level(state, subject) - control["target"]

@@ -26,6 +26,7 @@ def started(command, **options):
         with INTERRUPTION.held_back():
             if process:
                 stop(process)
+                drop_input(process)
 
 
 def stop(process):
@@ -39,6 +40,13 @@ def stop(process):
         latest = time.monotonic() + LONGEST_END
         while has_members(process.pid) and time.monotonic() < latest:
             time.sleep(0.01)
+
+
+def drop_input(process):
+    """Closes the pipe to a process that is gone, with what it has not read."""
+    if process.stdin:
+        with contextlib.suppress(BrokenPipeError):
+            process.stdin.close()
 
 
 def has_members(group):
@@ -56,16 +64,43 @@ def ended(status):
     return f"was ended by signal {-status}, {signal.strsignal(-status)}"
 
 
+def printed(process, name):
+    """The lines that a program prints as they come, as bytes without their ends; Failure where it dies."""
+    count = 0
+    for line in process.stdout:
+        if not line.endswith(b"\n"):
+            break  # cut, so it says nothing: a 36 may be the beginning of 3600
+        count += 1
+        yield line[:-1]
+    if status := process.wait():
+        raise Failure(f"the program {name} {ended(status)}, after {count} lines", DIED)
+
+
 def lines(path, data):
-    """The lines that a program prints for an input, as bytes without their ends; Failure where it dies."""
+    """The lines that a program prints for an input."""
     # From a file, so that a program may print before it has read everything.
     with tempfile.TemporaryFile() as stdin:
         stdin.write(data)
         stdin.seek(0)
-        count = 0
         with started([path], stdin=stdin) as process:
-            for count, line in enumerate(process.stdout, 1):
-                yield line.rstrip(b"\n")
-            status = process.wait()
-    if status:
-        raise Failure(f"the program {path.name} {ended(status)}, after {count} lines", DIED)
+            yield from printed(process, path.name)
+
+
+class Conversation:
+    """A program that is given its input in pieces, and the lines that it answers."""
+
+    def __init__(self, process, name):
+        self.process, self.lines = process, printed(process, name)
+
+    def give(self, data):
+        # One that has died reads nothing; the line that does not come tells how it died.
+        with contextlib.suppress(BrokenPipeError):
+            self.process.stdin.write(data)
+            self.process.stdin.flush()
+
+
+@contextlib.contextmanager
+def conversation(path):
+    """A program to talk with; it is stopped when the block ends."""
+    with started([path], stdin=subprocess.PIPE) as process:
+        yield Conversation(process, path.name)

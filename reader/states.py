@@ -7,7 +7,8 @@ import image_decode
 
 from reader.failure import DIED, Failure
 
-PATTERNS, CONTROLS, LOAD, CLOSE, STEP = 1, 2, 3, 4, 7  # the codes of the calls
+PATTERNS, CONTROLS, LOAD, CLOSE, STEP, SLOW = 1, 2, 3, 4, 7, 8  # the codes of the calls
+NAMES = {PATTERNS: "patterns", CONTROLS: "controls", LOAD: "load", CLOSE: "close", STEP: "step", SLOW: "slow"}
 
 
 @dataclass
@@ -15,6 +16,7 @@ class State:
     """A state as `replay` prints it; heads and demands by node, the rest by link."""
 
     instant: int
+    count: int  # of clock moves
     heads: tuple
     demands: tuple
     flows: tuple
@@ -62,15 +64,24 @@ class Lines:
         values = self.form.unpack(bytes.fromhex(words))
         links = 2 + self.nodes
         nodes = values[2:links]
-        return State(
-            values[0], nodes[0::3], nodes[1::3], values[links::3], values[links + 1 :: 3], values[links + 2 :: 3]
-        )
+        flows, statuses, settings = (values[links + place :: 3] for place in range(3))
+        return State(*values[:2], nodes[0::3], nodes[1::3], flows, statuses, settings)
+
+
+def refusal(answer):
+    """The number with which a call is refused; 0 where it is not."""
+    return int(answer.removeprefix("refused=")) if answer.startswith("refused=") else 0
+
+
+def image_of(data):
+    """The count of words and the words, without the loads."""
+    (count,) = struct.unpack_from("<I", data)
+    return data[: 4 + 4 * count]
 
 
 def loads_of(data, project):
     """The words of each load behind the image; the last may be cut."""
-    (count,) = struct.unpack_from("<I", data)
-    at, size = 4 + 4 * count, 4 + 4 * image_decode.load_size(project)
+    at, size = len(image_of(data)), 4 + 4 * image_decode.load_size(project)
     for begin in range(at, len(data), size):
         part = data[begin : begin + size]
         yield struct.unpack_from(f"<{len(part) // 4}I", part)
@@ -78,20 +89,21 @@ def loads_of(data, project):
 
 def input_of(data, project, listing):
     """The input of `replay` that makes the calls of the driver's run."""
-    (count,) = struct.unpack_from("<I", data)
     loads = loads_of(data, project)
     calls = []
     for _ in listing.steps:
-        calls += [[PATTERNS], [CONTROLS], *load_call(loads), [CLOSE], [STEP]]
+        calls += turn_calls(loads)
     if listing.refused:
-        calls += [[PATTERNS], [CONTROLS], *load_call(loads)]
+        calls += turn_calls(loads)[:-2]  # the load is the last
     words = [word for call in calls for word in call]
-    return data[: 4 + 4 * count] + struct.pack(f"<{1 + len(words)}I", len(calls), *words)
+    return image_of(data) + struct.pack(f"<{1 + len(words)}I", len(calls), *words)
 
 
-def load_call(loads):
+def turn_calls(loads, step=STEP):
+    """The calls of a turn of the driver, in its order, each as its words; the load if one is left."""
     load = next(loads, None)
-    return [] if load is None else [[LOAD, len(load), *load]]
+    load_call = [] if load is None else [[LOAD, len(load), *load]]
+    return [[PATTERNS], [CONTROLS], *load_call, [CLOSE], [step]]
 
 
 class Run:
@@ -128,5 +140,5 @@ class Run:
         turn = Turn(patterned, controlled, controlled)
         if with_load:
             answer, turn.loaded = self.lines.next("load")
-            turn.refused = int(answer.removeprefix("refused=")) if answer != "ok" else 0
+            turn.refused = refusal(answer)
         return turn

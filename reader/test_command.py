@@ -24,7 +24,8 @@ RT = """#!/bin/sh
 echo 'rt: number proved (unchanged since it was last proved)'
 echo 'rt: driver proved (17 s)'
 mkdir -p target/bin
-cp bin/driver bin/replay target/bin
+shift
+for name; do cp "bin/$name" target/bin; done
 """
 
 DRIVER = f"""#!{sys.executable} -S
@@ -56,6 +57,8 @@ def listing(name):
 
 
 class Copied(unittest.TestCase):
+    stand_ins = {"rt": RT, "driver": DRIVER, "replay": REPLAY}
+
     def setUp(self):
         self.folder = tempfile.TemporaryDirectory()
         self.place = pathlib.Path(self.folder.name)
@@ -67,7 +70,7 @@ class Copied(unittest.TestCase):
             shutil.copytree(ROOT / name, self.root / name, ignore=shutil.ignore_patterns("__pycache__"))
         bin_folder = self.root / "bin"
         bin_folder.mkdir()
-        for name, text in (("rt", RT), ("driver", DRIVER), ("replay", REPLAY)):
+        for name, text in self.stand_ins.items():
             (bin_folder / name).write_text(text)
             (bin_folder / name).chmod(0o755)
         (bin_folder / "python3").symlink_to(sys.executable)
@@ -90,6 +93,13 @@ class Copied(unittest.TestCase):
         """What stands on standard error behind what is said of the build."""
         lines = self.run_it(*arguments, **environment).stderr.splitlines()
         return [line for line in lines if not line.startswith(("run: proving", "["))]
+
+    def is_running(self, process):
+        """Whether a process is there and no zombie that waits for whoever inherited it."""
+        try:
+            return pathlib.Path(f"/proc/{process}/stat").read_text().rpartition(")")[2].split()[0] != "Z"
+        except FileNotFoundError:
+            return False
 
 
 class Listings(Copied):
@@ -141,7 +151,7 @@ class Listings(Copied):
     def test_help(self):
         done = self.run_it("--help")
         self.assertEqual((done.returncode, done.stderr), (0, ""))
-        for word in ("NAME", "FILE.txt", "--times", "--events", "--picture", "--list", "Exit status"):
+        for word in ("NAME", "FILE.txt", "--times", "--events", "--picture", "--slow", "--causes", "--list", "Exit"):
             self.assertIn(word, done.stdout)
 
     def test_a_reader_that_has_enough(self):
@@ -240,14 +250,14 @@ class Wrong(Copied):
         (self.root / "bin" / "rt").unlink()
         done = self.run_it()
         self.assertEqual((done.returncode, done.stdout), (2, ""))
-        self.assertEqual(done.stderr, "run: there is no rt on the PATH: the Rattle toolchain builds the driver\n")
+        self.assertEqual(done.stderr, "run: there is no rt on the PATH: the Rattle toolchain builds the programs\n")
 
 
 class Progress(Copied):
     def test_the_first_build_speaks(self):
         lines = self.run_it().stderr.splitlines()
-        self.assertEqual(lines[0], "run: proving and building driver, 46 crates; this first time takes minutes")
-        self.assertRegex(lines[1], r"^\[2/46\] driver, 17 s; 44 left, about \d+ s$")
+        self.assertEqual(lines[0], "run: proving and building driver, 48 crates; this first time takes minutes")
+        self.assertRegex(lines[1], r"^\[2/48\] driver, 17 s; 46 left, about \d+ s$")
 
     def test_the_next_is_silent(self):
         self.run_it()
@@ -267,13 +277,6 @@ class Progress(Copied):
             self.assertTrue(said.endswith(b"run: interrupted; nothing is left running\n"))
             self.assertFalse(self.is_running(int(sleeps.read_text())))
             sleeps.unlink()
-
-    def is_running(self, process):
-        """Whether a process is there and no zombie that waits for whoever inherited it."""
-        try:
-            return pathlib.Path(f"/proc/{process}/stat").read_text().rpartition(")")[2].split()[0] != "Z"
-        except FileNotFoundError:
-            return False
 
 
 class Runs(Copied):

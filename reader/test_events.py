@@ -45,7 +45,7 @@ def state(instant=0, levels=(5.0, 2.0), demands=(0.0, 0.0), flows=(0.0, 0.0, 0.0
     heads = (100.0 + levels[0], 50.0 + levels[1], 60.0)
     statuses = (lift, more.get("gate", ACTIVE), more.get("main", OPEN))
     settings = (more.get("speed", 1.0), more.get("setting", 30.0), 0.0)
-    return State(instant, heads, (*demands, 0.0), flows, statuses, settings)
+    return State(instant, 0, heads, (*demands, 0.0), flows, statuses, settings)
 
 
 def turn(before, after, controlled=None, closed=None, loaded=None):

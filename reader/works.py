@@ -13,6 +13,7 @@ from image_format import TextError
 
 from reader import ROOT
 from reader.failure import Failure
+from reader.network import Network
 
 
 @dataclass
@@ -35,6 +36,11 @@ class Works:
         except TextError:
             pass
         return None
+
+    @functools.cached_property
+    def network(self):
+        """The tables of an accepted image, under the names."""
+        return Network(image_decode.decode(self.image_words()), self.names)
 
 
 def title_of(text):

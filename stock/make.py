@@ -54,6 +54,7 @@ STOCK = [
     Works("oxbarrow", loads=EVERY_STEP),
     Works("withycombe", loads=EVERY_STEP),
     Works("coldash"),
+    Works("yarrowford"),
     Works("ravensdale", loads=EVERY_STEP),
     Works("thornmoor", loads=48, text=thornmoor.text),
     Works("fernbank"),

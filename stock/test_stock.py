@@ -8,6 +8,7 @@ sys.dont_write_bytecode = True
 
 import flows  # noqa: E402
 import make  # noqa: E402
+import walk  # noqa: E402
 import works  # noqa: E402
 from works import FOLDER, Junction, image_decode, steps  # noqa: E402
 
@@ -68,6 +69,40 @@ class Files(unittest.TestCase):
             row = re.search(rf"^\| `{item.name}` \|.*\| ([\d,]+) \|$", text, re.MULTILINE)
             run = works.run_of(item.path("image").read_bytes())
             self.assertEqual(int(row[1].replace(",", "")), len(run.steps), item)
+
+
+class SecondClock(unittest.TestCase):
+    """Document 02, R-10: the works that the clock counting seconds serves, walked in Python, against their listings."""
+
+    @staticmethod
+    def served():
+        for item in make.STOCK:
+            told = image_decode.decode(input_of(item)[0])
+            project = None if told.fault else works.project_told(told)
+            if project and not walk.refusals(project):
+                yield item, project
+
+    def test_it_serves_the_two_without_tanks_and_off_the_fast_path(self):
+        self.assertEqual([item.name for item, _ in self.served()], ["coldash", "yarrowford"])
+
+    def test_a_walk_by_seconds_gives_the_listing(self):
+        for item, project in self.served():
+            lines, instant = ["from length"], 0
+            while instant < project.options.duration:
+                length, _ = walk.walk(project, instant)
+                lines.append(f"{instant} {length}")
+                instant += length
+            lines.append(f"steps {len(lines) - 1}")
+            self.assertEqual("\n".join(lines) + "\n", item.path("listing").read_text(), item)
+
+    def test_every_cause_stops_yarrowford_alone(self):
+        project = next(project for item, project in self.served() if item.name == "yarrowford")
+        instant, alone = 0, set()
+        while instant < project.options.duration:
+            length, causes = walk.walk(project, instant)
+            alone |= set(causes) if len(causes) == 1 else set()
+            instant += length
+        self.assertEqual(alone, set(walk.STOPS))
 
 
 class Flows(unittest.TestCase):

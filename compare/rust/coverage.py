@@ -3,8 +3,10 @@
 
     coverage.py --oracle PATH --seed 1 --count 1000
 
-The candidates of a step are worked out a second time by steps.py, from document 01. A step that is not the smallest of
-them, or a line that begins with `panic`, ends the count with code 1; so does a thing to reach that is not reached.
+The candidates of a step are worked out a second time by steps.py, from document 01, and the second clock's walk by
+walk.py, from document 02. A step that is not the smallest of its candidates, a second clock that answers or leaves
+something else than the walk, or a line that begins with `panic`, ends the count with code 1; so does a thing to reach
+that is not reached.
 """
 
 import argparse
@@ -19,6 +21,7 @@ from programs import Program
 from run import chunks
 from steps import NEVER, Levels, causes, control_time, tank_time, time_to_reach
 from values import H_TOL, L_TOL, volume
+from walk import STOPS, refusals, seconds_of, timesteps, walk
 
 PRESSURE_CONDITIONS = (HIGH_PRESSURE, LOW_PRESSURE)
 LEVEL_CONDITIONS = (HIGH_LEVEL, LOW_LEVEL)
@@ -29,7 +32,7 @@ class State:
     """The words after an answer, as numbers."""
 
     def __init__(self, project, line):
-        words = [int(word, 16) for word in line.split(" ")[2:]]
+        self.words = words = [int(word, 16) for word in line.split(" ")[2:]]
         self.instant, self.count = words[:2]
         per_node = words[2 : 2 + 3 * len(project.nodes)]
         per_link = words[2 + 3 * len(project.nodes) :]
@@ -63,6 +66,8 @@ def count_case(counts, kind, case, answer):
             count_edges(counts, case, lines)
         if kind == "hours":
             count_hours(counts, case, lines)
+        if kind == "slow":
+            count_both_clocks(counts, lines)
 
 
 def count_replay(counts, case, lines):
@@ -74,7 +79,7 @@ def count_replay(counts, case, lines):
     for call, line in zip(case.calls, lines[1:]):
         after = State(project, line)
         name, answer = line.split(" ")[:2]
-        counts[f"answer: {name} {answer if call.code != STEP_CALL else 'length'}"] += 1
+        counts[f"answer: {name} {'length' if answer.isdecimal() else answer}"] += 1
         for was, now in zip(before.statuses, after.statuses):
             if was != now:
                 counts[f"status: {name} makes {STATUSES[now]}"] += 1
@@ -251,7 +256,7 @@ def count_step(counts, project, call, answer, before, after):
     length = int(answer)
     found = causes(project, before)
     if length != min(found.values()):
-        sys.exit(f"a step of {length} where the candidates are {found}\n" + "\n".join(map(describe, project.records())))
+        stop(project, call, f"a step of {length} from {before.instant}, where the candidates are {found}")
     cut_by = [name for name, seconds in found.items() if seconds == length]
     counts[f"step: cut by {cut_by[0] if len(cut_by) == 1 else 'several'}"] += 1
     for name in cut_by:
@@ -261,6 +266,10 @@ def count_step(counts, project, call, answer, before, after):
         count_control_times(counts, project, before)
     for index in project.tanks():
         count_new_level(counts, project.nodes[index], before.heads[index], after.heads[index], length)
+
+
+def stop(project, call, words):
+    sys.exit(f"{words}\n{generate.text_of(Replay(project, [call]))}")
 
 
 def count_tank_times(counts, project, before):
@@ -318,6 +327,68 @@ def count_new_level(counts, tank, before, after, length):
         counts[f"levels: moved to {at}"] += 1
 
 
+def count_slow(counts, project, call, answer, before, after):
+    """The second clock: its answer and the state after it have to be those of the walk, or of its refusal."""
+    reasons = refusals(project)
+    length, stopped_by = (0, []) if reasons else walk(project, before.instant)
+    right = "refused=14" if reasons else str(length)
+    moved = [before.instant + length, before.count + (length > 0), *before.words[2:]]
+    if answer != right or after.words != moved:
+        stop(project, call, f"from {before.instant} the walk gives {right}; {answer} is answered, or the state another")
+    if reasons:
+        count_refused_walk(counts, project, reasons, before)
+    elif length == 0:
+        counts["slow: served, 0 at the duration"] += 1
+    else:
+        counts["slow: served"] += 1
+        count_stops(counts, project, length, stopped_by)
+        count_due(counts, project, before, length, stopped_by)
+        count_served_project(counts, project)
+
+
+def count_refused_walk(counts, project, reasons, before):
+    counts["slow: refused"] += 1
+    counts[f"slow: refused for {reasons[0] + ' alone' if len(reasons) == 1 else 'several reasons'}"] += 1
+    counts["slow: refused at the duration"] += before.instant == project.options.duration
+    for name, seconds in timesteps(project).items() if reasons == ["timesteps"] else ():
+        counts[f"slow: refused with {name} 86,401"] += seconds == DAY + 1
+
+
+def count_stops(counts, project, length, stopped_by):
+    counts[f"slow: stopped by {stopped_by[0] + ' alone' if len(stopped_by) == 1 else 'several'}"] += 1
+    counts["slow: stopped after 3,600 by hydraulic 0"] += project.options.hydraulic == 0 and stopped_by == ["hydraulic"]
+    smallest = min(timesteps(project).values())
+    for name, seconds in timesteps(project).items():
+        counts[f"slow: served with {name} 86,400 the smallest"] += seconds == smallest == DAY
+        counts[f"slow: stopped after a day by {name}"] += length == DAY and name in stopped_by
+
+
+def count_due(counts, project, before, length, stopped_by):
+    """What is due about the second at which the walk begins, and what is due past midnight."""
+    clock = (before.instant + project.options.start_clock) % DAY
+    times, clock_times = seconds_of(project, TIME), seconds_of(project, CLOCK_TIME)
+    counts["slow: a clock control due now"] += clock in clock_times
+    counts["slow: a clock control due now comes again after a day"] += clock in clock_times and length == DAY
+    counts["slow: a clock control due a second ago"] += (clock - 1) % DAY in clock_times
+    counts["slow: a clock control stops it past midnight"] += "clock control" in stopped_by and clock + length >= DAY
+    counts["slow: a time control due now"] += before.instant in times
+    counts["slow: a time control due a second ago"] += before.instant - 1 in times
+
+
+def count_served_project(counts, project):
+    conditions = {control.condition for control in project.controls}
+    counts["slow: served with a level control of no tank"] += not conditions.isdisjoint(LEVEL_CONDITIONS)
+    counts["slow: served with a pressure control"] += not conditions.isdisjoint(PRESSURE_CONDITIONS)
+    counts["slow: served with the skip flag"] += bool(project.options.flags & SKIP)
+    counts["slow: served with 64 controls"] += len(project.controls) == MOST_CONTROLS
+
+
+def count_both_clocks(counts, lines):
+    """Whether both clocks have moved on in one list."""
+    moved = {name for name, answer in (line.split(" ")[:2] for line in lines) if answer.isdecimal() and answer != "0"}
+    counts["slow: both clocks in one list"] += moved == {"step", "slow"}
+
+
 COUNTERS = {
     PATTERNS_CALL: count_patterns,
     CONTROLS_CALL: count_controls,
@@ -325,6 +396,7 @@ COUNTERS = {
     PRESSURE_CALL: count_pressure,
     PREMISE_CALL: count_premise,
     STEP_CALL: count_step,
+    SLOW_CALL: count_slow,
 }
 
 
@@ -336,6 +408,7 @@ def expected():
     yield from expected_refusals()
     yield from expected_controls()
     yield from expected_steps()
+    yield from expected_walks()
     yield from named("status", ["close makes TempClosed"])
     yield from named("close", (f"{tank} tank, link {way} it, closed" for tank in ("full", "empty") for way in WAYS))
     yield from named("close", (f"full tank, link {way} it, overflow, left" for way in WAYS))
@@ -399,6 +472,23 @@ def expected_steps():
     quotients = ("0.49999999999999994", "under 0.5", "whole", *halves, "at or over 2^64")
     yield from named("tank", (f"gap / flow {kind}" for kind in quotients))
     yield from named("levels", ["moved to greatest", "moved to least", "moved to between", "a step of 0 leaves them"])
+
+
+def expected_walks():
+    yield from named("slow", ["served", "served, 0 at the duration", "both clocks in one list"])
+    yield from named("slow", ["refused", "refused at the duration", "refused for several reasons"])
+    yield from named("slow", (f"refused for {reason} alone" for reason in ("tank", "fast path", "timesteps")))
+    for name in ("report", "pattern", "hydraulic"):
+        yield from named("slow", [f"refused with {name} 86,401", f"served with {name} 86,400 the smallest"])
+        yield from named("slow", [f"stopped after a day by {name}"])
+    yield from named("slow", (f"stopped by {cause} alone" for cause in STOPS))
+    yield from named("slow", ["stopped by several", "stopped after 3,600 by hydraulic 0"])
+    for sort in ("time", "clock"):
+        yield from named("slow", [f"a {sort} control due now", f"a {sort} control due a second ago"])
+    yield from named("slow", ["a clock control due now comes again after a day"])
+    yield from named("slow", ["a clock control stops it past midnight"])
+    tables = ("a level control of no tank", "a pressure control", "the skip flag", "64 controls")
+    yield from named("slow", (f"served with {what}" for what in tables))
 
 
 def main():

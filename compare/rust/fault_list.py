@@ -65,8 +65,13 @@ def fault(words, file, *changes):
 
 def reading(words, file, *changes):
     """A fault in the oracle's own source, from (old, new)."""
-    shows_in = {"image.rs": "image", "driver.rs": "driver"}.get(file, "other")
+    shows_in = {"image.rs": "image", "driver.rs": "driver", "second_clock.rs": "slow"}.get(file, "other")
     return Fault(words, file, tuple(Passage(*change) for change in changes), True, shows_in)
+
+
+def slow_call(words, old, new):
+    """A fault in what the oracle makes of the second clock's call."""
+    return Fault(words, "progress.rs", (Passage(old, new),), True, "slow")
 
 
 TANK, CONTROL, RULE, LINK = "model/tank.rs", "model/control.rs", "model/rule.rs", "model/link.rs"
@@ -477,6 +482,50 @@ DRIVING = [
              '{ return writeln!(out, "refused {fault}"); } } writeln!(out, "steps {}", progress.count())')),
 ]
 
+SERVED, REFUSED = "Ok(self.step())", "Err(second_clock::NOT_SERVED)"
+
+SECOND_CLOCK = [
+    reading("a project with tanks is served", "second_clock.rs", ("!has_tanks(project) && !is_on", "!is_on")),
+    reading("the fast path is served", "second_clock.rs", (" && !is_on_fast_path(project)", "")),
+    reading("any timesteps are served", "second_clock.rs", (" && !has_long_timesteps(project)", "")),
+    reading("the skip flag is the fast path, controls or not", "second_clock.rs",
+            (" && project.controls.is_empty()", "")),
+    reading("a project without controls is on the fast path, skip flag or not", "second_clock.rs",
+            ("project.options.skip_timesteps && ", "")),
+    reading("a level control counts as a tank", "second_clock.rs",
+            ("matches!(node, Node::Tank(_)))",
+             "matches!(node, Node::Tank(_))) || project.controls.iter().any(|control| matches!(control.condition, "
+             "crate::project::Condition::HighLevel { .. } | crate::project::Condition::LowLevel { .. }))")),
+    reading("one timestep above a day is enough to refuse", "second_clock.rs", ("all(|&seconds|", "any(|&seconds|")),
+    reading("86,401 is within a day", "second_clock.rs", ("86_400", "86_401")),
+    reading("86,400 is above a day", "second_clock.rs", ("86_400", "86_399")),
+    reading("the report timestep is not asked", "second_clock.rs", ("options.report_timestep as usize, ", "")),
+    reading("the pattern timestep is not asked", "second_clock.rs", ("options.pattern_timestep as usize, ", "")),
+    reading("the hydraulic timestep is not asked", "second_clock.rs", (" as usize, hydraulic]", " as usize]")),
+    reading("a hydraulic timestep of 0 is no bound, and above a day", "second_clock.rs",
+            ("= hydraulic_in_force(options.hydraulic_timestep)",
+             "= if options.hydraulic_timestep == 0 { usize::MAX } else { options.hydraulic_timestep as usize }")),
+    reading("a duration of a day or less is served", "second_clock.rs",
+            ("seconds > DAY)", "seconds > DAY) && options.duration as usize > DAY")),
+    reading("number 13 in place of 14", "second_clock.rs", ("NOT_SERVED: Fault = 14", "NOT_SERVED: Fault = 13")),
+    slow_call("0 and not 14 at the duration", "if self.has_second_clock {",
+              "if self.has_second_clock || self.instant() == self.duration() {"),
+    slow_call("14 and not 0 at the duration", "if self.has_second_clock {",
+              "if self.has_second_clock && self.instant() < self.duration() {"),
+    slow_call("a refused one moves the clock", REFUSED, f"self.step(); {REFUSED}"),
+    slow_call("a refused one leaves no flows", REFUSED, f"parts(&mut self.simulation).1.flows.fill(0.0); {REFUSED}"),
+    slow_call("the second clock's steps are not counted", SERVED, "Ok(self.simulation.next_hydraulic_timestep())"),
+    slow_call("the instant of the stop for the length", SERVED, "self.step(); Ok(self.instant())"),
+    slow_call("it stops after every second", SERVED,
+              "if self.instant() == self.duration() { return Ok(0); } "
+              "self.simulation.time += 1; self.count += 1; Ok(1)"),
+    slow_call("it applies the controls where it stops", SERVED,
+              "let length = self.step(); self.controls(); Ok(length)"),
+    slow_call("it applies the patterns where it stops", SERVED,
+              "let length = self.step(); self.patterns(); Ok(length)"),
+]
+
 FAULTS = [
     *TEMPTING, *TANKS, *PATTERNS, *CONTROLS, *LINKS, *CLOSING, *STEPS, *PREMISES, *IMAGES, *LOADS, *CALLS, *DRIVING,
+    *SECOND_CLOCK,
 ]

@@ -34,11 +34,12 @@ FIRST_PIECE, LONGEST_PIECE = 25, 400
 # Seconds for a piece. A planted fault might let a run step on for ever.
 PATIENCE = 60
 
-# An image's faults show in images first, a driver's in the driver.
+# An image's faults show in images first, a driver's in the driver, the second clock's in its own lists.
 ORDERS = {
-    "image": ("sweep", "image", "replay", "edge", "hours", "driver", "strain"),
-    "driver": ("driver", "strain", "replay", "edge", "hours", "image", "sweep"),
-    "other": ("replay", "edge", "hours", "driver", "strain", "image", "sweep"),
+    "image": ("sweep", "image", "replay", "edge", "hours", "driver", "strain", "slow"),
+    "driver": ("driver", "strain", "replay", "edge", "hours", "slow", "image", "sweep"),
+    "slow": ("slow", "replay", "edge", "hours", "driver", "strain", "image", "sweep"),
+    "other": ("replay", "edge", "hours", "driver", "strain", "slow", "image", "sweep"),
 }
 
 # Built for a quick build: what the oracle answers does not depend on it.

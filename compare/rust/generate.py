@@ -1,8 +1,8 @@
 #!/usr/bin/env python3
 """Random projects, lists of calls, driver inputs and damaged images, each fixed by its seed.
 
-    generate.py --replay SEED | --edge SEED | --hours SEED | --driver SEED | --strain SEED | --image SEED |
-                --sweep NUMBER [--out FILE] [--text]
+    generate.py --replay SEED | --edge SEED | --hours SEED | --slow SEED | --driver SEED | --strain SEED |
+                --image SEED | --sweep NUMBER [--out FILE] [--text]
 
 A sweep's images are not random: they try each field's limits, each header and each table's end one by one.
 With --text the image and its loads are written as the text of tools/image; why the input is refused stands in front,
@@ -23,6 +23,7 @@ import limits
 from image import *
 from steps import Levels, advance, put_load, starting_levels, time_to_reach
 from values import *
+from walk import refusals
 
 
 def replay_case(seed):
@@ -106,6 +107,16 @@ def hours_case(seed):
     return Replay(project, calls)
 
 
+def slow_case(seed):
+    """Lists with the second clock's call among the others, on projects that it serves and some that it refuses."""
+    chance = Chance(f"slow {seed}")
+    project = slow_project(chance)
+    moments = make_moments(chance, project, most=4)
+    project.premises = make_premises(chance, project, moments)
+    calls = slow_calls(chance, project, [moment.load for moment in moments])
+    return Replay(project, walked_at_most(project, calls, DAY * chance.choice((1, 1, 1, 2, 2, 4, 20))))
+
+
 def strain_case(seed):
     """A driver's run in which a great flow passes through the tank and little stays: the order of the sum shows."""
     chance = Chance(f"strain {seed}")
@@ -151,8 +162,10 @@ def sweep_case(number):
 
 
 def make_project(chance):
-    sizes = make_sizes(chance)
-    options = make_options(chance)
+    return sized_project(chance, make_sizes(chance), make_options(chance))
+
+
+def sized_project(chance, sizes, options):
     project = Project(options)
     project.patterns = [make_pattern(chance) for _ in range(sizes["patterns"])]
     options.default_pattern = pattern_word(chance, project)
@@ -191,6 +204,11 @@ def make_options(chance):
         # Long timesteps, so that tanks and controls cut the steps.
         report, pattern = chance.choices((7200, DAY, DAY + 1, 7 * DAY, LONGEST_TIME), k=2)
         hydraulic = chance.choice((0, LONGEST_TIME, DAY, LONGEST_TIME))
+    return timed_options(chance, report, pattern, hydraulic)
+
+
+def timed_options(chance, report, pattern, hydraulic):
+    """Options with these timesteps."""
     return Options(
         duration=make_duration(chance, (report, pattern, hydraulic or HOUR)),
         hydraulic=hydraulic,
@@ -335,7 +353,10 @@ def make_setting(chance):
 
 
 def make_control(chance, project):
-    condition = chance.randrange(6)
+    return control_of(chance, project, chance.randrange(6))
+
+
+def control_of(chance, project, condition):
     control = Control(condition, 0, link=chance.randrange(len(project.links)))
     set_action(chance, control, chance.choice((0, 1, 1, 2, 2, 3)))
     if condition == TIME:
@@ -632,10 +653,111 @@ def fill_up(project):
         room -= more
 
 
+# The second clock
+
+
+def slow_project(chance):
+    """Mostly without tanks and with few records, so that the answers are short."""
+    project = sized_project(chance, slow_sizes(chance), timed_options(chance, *slow_timesteps(chance)))
+    if project.links:
+        project.controls = slow_controls(chance, project)
+    if project.is_on_fast_path() and not chance.one_in(3):
+        project.options.flags ^= SKIP
+    if chance.one_in(2):
+        end_soon(chance, project)
+    return project
+
+
+def slow_sizes(chance):
+    return dict(
+        patterns=chance.randint(0, 2),
+        nodes=chance.among((1, 0), (1, 1), (6, 2), (3, lambda: chance.randint(3, 6))),
+        links=chance.among((1, 0), (6, 1), (3, lambda: chance.randint(2, 4))),
+        controls=0,
+        tanks=chance.among((7, "none"), (1, "one")),
+    )
+
+
+def slow_timesteps(chance):
+    """Report, pattern and hydraulic: any, or all above a day but perhaps one, which is about a day or shorter."""
+    timesteps = [timestep(chance) for _ in range(3)]
+    if not chance.one_in(4):
+        timesteps = chance.choices((DAY + 1, 100_000, 7 * DAY, LONGEST_TIME), k=3)
+        timesteps[chance.randrange(3)] = chance.choice((DAY - 1, DAY, DAY, DAY + 1, timestep(chance)))
+    if chance.one_in(6):
+        timesteps[2] = 0
+    return timesteps
+
+
+def slow_controls(chance, project):
+    """None, a few or as many as there may be, of some conditions only; the last is often due about a stop."""
+    conditions = chance.sample(range(6), chance.randint(1, 6))
+    count = chance.among((2, 0), (8, lambda: chance.randint(1, 3)), (1, lambda: chance.randint(4, 12)))
+    if chance.one_in(20):
+        count = MOST_CONTROLS
+    controls = [control_of(chance, project, chance.choice(conditions)) for _ in range(count)]
+    if controls and chance.one_in(2):
+        controls[-1] = control_about_a_stop(chance, project)
+    return controls
+
+
+def control_about_a_stop(chance, project):
+    """A time or clock control that is due where one of the first steps begins, a second before or after, or later."""
+    control = control_of(chance, project, chance.choice((TIME, CLOCK_TIME)))
+    due = chance.choice([0, *first_stops(project, 3)]) + chance.choice((0, 0, -1, 1, chance.randrange(DAY)))
+    if control.condition == TIME:
+        control.subject = min(max(due, 0), LONGEST_TIME)
+    else:
+        control.subject = (project.options.start_clock + due) % DAY
+    return control
+
+
+def first_stops(project, count):
+    """The instants after the first steps, as long as nothing flows."""
+    levels = starting_levels(project)
+    stops = []
+    for _ in range(count):
+        advance(project, levels)
+        stops.append(levels.instant)
+    return stops
+
+
+def end_soon(chance, project):
+    """Puts the duration a few steps ahead, so that lists of calls get there and beyond."""
+    end = first_stops(project, chance.randint(1, 8))[-1] + chance.choice((0, 0, 1, -1, 77))
+    project.options.duration = min(max(end, 0), LONGEST_TIME)
+
+
+def slow_calls(chance, project, loads):
+    """Cycles in which the second clock takes most of the steps, and perhaps some more of its calls."""
+    calls = [call for _ in range(chance.randint(1, 6)) for call in loose_cycle(chance, project, loads)]
+    for call in calls:
+        if call.code == STEP_CALL and not chance.one_in(4):
+            call.code = SLOW_CALL
+    return calls + [Call(SLOW_CALL) for _ in range(chance.choice((0, 0, 0, 2, 5)))]
+
+
+def walked_at_most(project, calls, most):
+    """The list with the driver's steps for the second clock's once it has walked so many seconds, each of which costs
+    the program under comparison some time."""
+    if refusals(project):
+        return calls
+    levels, walked = starting_levels(project), 0
+    for call in calls:
+        if call.code == SLOW_CALL and walked >= most:
+            call.code = STEP_CALL
+        if call.code in (STEP_CALL, SLOW_CALL):
+            begins = levels.instant
+            advance(project, levels)
+            walked += levels.instant - begins if call.code == SLOW_CALL else 0
+    return calls
+
+
 CASES = {
     "replay": replay_case,
     "edge": edge_case,
     "hours": hours_case,
+    "slow": slow_case,
     "driver": drive_case,
     "strain": strain_case,
     "image": image_case,

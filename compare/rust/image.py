@@ -40,8 +40,8 @@ COMPARISONS = ("Eq", "Ne", "Gt", "Lt", "Ge", "Le")
 SORTS = ("number", "status", "time")
 NUMBER, STATUS, SECONDS = range(3)
 
-PATTERNS_CALL, CONTROLS_CALL, LOAD_CALL, CLOSE_CALL, PRESSURE_CALL, PREMISE_CALL, STEP_CALL = range(1, 8)
-CALL_NAMES = (None, "patterns", "controls", "load", "close", "pressure", "premise", "step")
+PATTERNS_CALL, CONTROLS_CALL, LOAD_CALL, CLOSE_CALL, PRESSURE_CALL, PREMISE_CALL, STEP_CALL, SLOW_CALL = range(1, 9)
+CALL_NAMES = (None, "patterns", "controls", "load", "close", "pressure", "premise", "step", "slow")
 LOAD_KIND = 15
 
 

@@ -7,9 +7,10 @@ Out of the seeds' lists of calls and damaged images and out of the sweep, the sm
 something which fewer than --times of those kept before it reach, and a large one only for what none of them reaches;
 coverage.py names what there is. A list of calls is cut behind the last call that it was kept for, but not to fewer than
 --least-calls; on a project with the largest tables it is one call of each sort. In front stand inputs whose count is
-wrong, and at the end the cases of the narrow kinds by which faults.py finds what no other kind shows. data/case000,
-data/case001, .. are the inputs; stdout has for each a line with its name and then the answer, and
-ends with the number of cases. Where something is not reached it is named, and the end is code 1; what coverage.py
+wrong, then the cases so kept, then those of the narrow kinds by which faults.py finds what no other kind shows, and at
+the end the second clock's, chosen in the same way among its own and by what coverage.py counts of it, and works of the
+stock walked by it, which are held to their listings. data/case000, data/case001, .. are the inputs; stdout has for each
+a line with its name and then the answer, and ends with the number of cases. Where something is not reached it is named, and the end is code 1; what coverage.py
 counts of `driver` is not asked for.
 """
 
@@ -22,14 +23,21 @@ from pathlib import Path
 
 import generate
 from coverage import count_case, expected
-from image import MOST_LINKS, MOST_WORDS, PATTERNS_CALL, REPLAY, STEP_CALL, Options, Replay, to_bytes
+from image import MOST_LINKS, MOST_WORDS, PATTERNS_CALL, REPLAY, SLOW_CALL, STEP_CALL, Options, Replay, to_bytes
 from programs import Program
 from run import chunks
 
 KINDS = ["sweep", "image", "replay"]
+SECOND_CLOCK = ["slow"]
+ORDER = KINDS + SECOND_CLOCK
 OTHER_KINDS = ("driver", "edge", "hours", "strain")
 NARROW = {"edge": (1, 2, 3, 35, 63, 422), "hours": (1, 2, 149, 155)}  # seeds
 LARGE = 20_000  # bytes of input and answer
+SECOND_CLOCK_SEEDS = 1000  # the walks are worked out again in Python, which takes its time
+SECOND_CLOCK_TIMES = 2
+STOCK = Path(__file__).resolve().parents[2] / "stock"
+WALKED = ("coldash", "yarrowford")  # the works of the stock that the second clock serves
+NOT_WALKED = ("hazelcombe", "netherbeck")  # one on the fast path, one with a tank
 CALL_CODES = range(PATTERNS_CALL, STEP_CALL + 1)
 
 
@@ -44,10 +52,15 @@ class Candidate:
 def main():
     arguments = parse_arguments()
     oracle = Program(arguments.oracle)
-    found = candidates(oracle, arguments.seed, arguments.count)
+    found = candidates(oracle, KINDS, arguments.seed, arguments.count)
     kept, reached = chosen(oracle, found, arguments.times, arguments.least_calls)
-    inputs = [*miscounted(), *(case.input() for case in kept), *narrow()]
-    write(Path(arguments.out), inputs, oracle.answers([(REPLAY, data) for data in inputs]))
+    walks = candidates(oracle, SECOND_CLOCK, arguments.seed, min(arguments.count, SECOND_CLOCK_SEEDS))
+    walked, reached_walking = chosen(oracle, walks, SECOND_CLOCK_TIMES, arguments.least_calls)
+    reached += reached_walking
+    inputs = [*miscounted(), *inputs_of(kept), *narrow(), *inputs_of(walked), *stock()]
+    answers = oracle.answers([(REPLAY, data) for data in inputs])
+    check_stock(answers[-len(stock()):])
+    write(Path(arguments.out), inputs, answers)
     print(f"{len(inputs)} cases in {arguments.out}, which reach {len(reached)} things")
     missing = [name for name in expected() if not name.startswith(OTHER_KINDS) and not reached[name]]
     if missing:
@@ -73,14 +86,42 @@ def miscounted():
     return [b"", whole[:3], whole[:4], whole[:-1]] + [to_bytes([count] + image) for count in counts]
 
 
+def inputs_of(cases):
+    return [case.input() for case in cases]
+
+
 def narrow():
     return [generate.CASES[kind](seed).input() for kind, seeds in NARROW.items() for seed in seeds]
 
 
-def candidates(oracle, seed, count):
+def lengths(name):
+    """The steps' lengths by the listing of a works of the stock."""
+    return [line.split()[1] for line in (STOCK / f"{name}.listing").read_text().splitlines() if line[0].isdecimal()]
+
+
+def stock():
+    """Works of the stock walked by the second clock to their end and one call beyond, and two that it refuses."""
+    calls = {name: len(lengths(name)) + 1 for name in WALKED} | {name: 1 for name in NOT_WALKED}
+    return [image_of(name) + to_bytes([count] + [SLOW_CALL] * count) for name, count in calls.items()]
+
+
+def image_of(name):
+    """The count of words and the words, without loads."""
+    data = (STOCK / f"{name}.image").read_bytes()
+    return data[: 4 + 4 * int.from_bytes(data[:4], "little")]
+
+
+def check_stock(answers):
+    expected = [lengths(name) + ["0"] for name in WALKED] + [["refused=14"] for _ in NOT_WALKED]
+    for name, answer, right in zip(WALKED + NOT_WALKED, answers, expected):
+        if [line.split()[1] for line in answer.decode().splitlines()[1:]] != right:
+            raise SystemExit(f"{name}: the oracle's answer is not the listing")
+
+
+def candidates(oracle, kinds, seed, count):
     """Every case with what it reaches, the smallest first. The cases themselves are many, and are made again."""
     found = []
-    for cases in chunks(KINDS, seed, count):
+    for cases in chunks(kinds, seed, count):
         answers = oracle.answers([(case.mode, case.input()) for _, _, case in cases])
         for (kind, number, case), answer in zip(cases, answers):
             if is_largest(case):
@@ -103,9 +144,11 @@ def one_of_each(case):
 
 
 def names_of(kind, case, answer):
+    """What the case reaches; of the second clock's own cases only what is said of that clock."""
     counts = Counter()
     count_case(counts, kind, case, answer)
-    return {name for name, number in counts.items() if number}
+    subject = "slow: " if kind in SECOND_CLOCK else ""
+    return {name for name, number in counts.items() if number and name.startswith(subject)}
 
 
 def chosen(oracle, found, times, least_calls):
@@ -121,7 +164,7 @@ def chosen(oracle, found, times, least_calls):
             elif isinstance(case, Replay):
                 case = cut(oracle, candidate.kind, case, wanted, least_calls)
             reached.update(names_of(candidate.kind, case, oracle.answer(REPLAY, case.input())))
-            kept.append((KINDS.index(candidate.kind), candidate.seed, case))
+            kept.append((ORDER.index(candidate.kind), candidate.seed, case))
     return [case for _, _, case in sorted(kept, key=lambda entry: entry[:2])], reached
 
 

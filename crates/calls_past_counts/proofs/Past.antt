@@ -1,5 +1,5 @@
 -- No call changes an entry past the counts: each turn of its loops writes below them. Assumes nothing.
-use Prim.Native.Nat.{ℕ, _≤_, _<_}
+use Prim.Native.Nat.{ℕ, _+_, _≤_, _<_}
 use mathlib.Core.Path.{_≡_, refl, _∙_}
 use mathlib.Core.Bool.{Bool, true, false, cond}
 use mathlib.Core.List.{List}
@@ -31,6 +31,7 @@ use Rattle.calls.specs.Calls.{gives, start, judged, patterns, controls, load, t
 use Rattle.calls.specs.declared.Called.{Called}
 use Rattle.calls.specs.declared.PressureCalled.{PressureCalled}
 use Rattle.calls.specs.declared.StepCalled.{StepCalled}
+use Rattle.second_clock.specs.SecondClock.{secondApplies, secondLength, movedOn, refusedStep, second}
 use Rattle.calls_past_counts.specs.Past.{SamePast}
 
 same : (p : Project) (s : State) → SamePast p s s
@@ -152,3 +153,23 @@ step-past p s = go (inOrder p s)
         → SamePast p s (cond {A = StepCalled} b (record { number = 0; length = lengthOf p s; state = movedBy p s (lengthOf p s) }) (record { number = 10; length = 0; state = s }) .state)
     go true = moved-by-past p s (lengthOf p s)
     go false = same p s
+
+moved-on-past : (p : Project) (s : State) (seconds : ℕ) → SamePast p s (movedOn s seconds)
+unfolding movedOn
+moved-on-past p s seconds = go (eqb seconds 0)
+  where
+    go : (b : Bool)
+        → SamePast p s (cond b s (record { nodes = s .nodes; links = s .links; clock = record { instant = s .clock .instant + seconds; count = s .clock .count + 1 } }))
+    go true = same p s
+    go false = record { node = λ i l. refl; link = λ i l. refl }
+
+pub second-past : (p : Project) (s : State) → SamePast p s (second p s .state)
+unfolding second
+second-past p s = go (inOrder p s) (secondApplies p)
+  where
+    go : (a b : Bool)
+        → SamePast p s
+        (cond a (cond b (record { number = 0; length = secondLength p s; state = movedOn s (secondLength p s) }) (refusedStep 14 s)) (refusedStep 10 s) .state)
+    go true true = moved-on-past p s (secondLength p s)
+    go true false = same p s
+    go false b = same p s

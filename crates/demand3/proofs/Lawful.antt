@@ -1,39 +1,40 @@
--- The public calls are a lawful machine on an accepted project's tables: by soundness a state stays in order and only loads and premises are refused;
--- no call but a step moves the clock, and a step moves it by its length. Assumes nothing.
+-- The public calls are a lawful machine on an accepted project's tables: by soundness a state stays in order, and only loads, premises and a second
+-- clock that does not serve are refused; no call but a step moves the clock, and a step by either clock moves it by its length. Assumes nothing.
 use mathlib.Core.Path.{_≡_, refl, sym, ap, _∙_}
 use mathlib.Core.Logic.{_⊎_, inl, inr}
 use mathlib.Core.Bool.{Bool, true, false, cond, true≢false}
-use mathlib.Core.List.{List, [], _∷_, _++_}
-use Prim.Native.Nat.{ℕ, zero, suc, _+_, _≤_, _<_}
+use mathlib.Core.List.{List}
+use Prim.Native.Nat.{ℕ, _+_}
 use native.Mathlib.Omega.{arith}
 use lib.Dec.{eqb, ltb}
 use borrow.Author.Tests.{eq-eqb, ne-eqb, lt-ltb}
 use Rattle.clock.proofs.Tests.{eqb-ind}
-use Rattle.clock.specs.Lawful.{Accepted, ClockInDay, Each, Lawful, Quiet, Start, Stepping}
+use Rattle.clock.specs.Lawful.{Lawful, Quiet, Start, Stepping}
 use Rattle.clock.specs.Machine.{bit}
 use Rattle.clock.specs.Steps.{advanced}
-use Rattle.clock.specs.Triggers.{Trigger}
 use Rattle.clock.specs.declared.hand.Clock.{Clock}
-use Rattle.model.specs.Blank.{blankState, controlAt}
-use Rattle.model.specs.declared.control.ControlCondition.{ControlCondition}
-use Rattle.model.specs.declared.control.ControlCondition.the-variants.{HighPressure, LowPressure, HighLevel, LowLevel, Time, ClockTime}
+use Rattle.model.specs.Blank.{blankState}
 use Rattle.model.specs.declared.project.Project.{Project}
 use Rattle.model.specs.declared.state.State.{State}
 use Rattle.model.proofs.Loops.{both-left}
-use Rattle.tables.specs.Fit.{ConditionFit, TablesFit}
 use Rattle.tables.specs.Tables.{tablesOk}
 use Rattle.tables.proofs.Fits.{tables-fit}
 use Rattle.judge.specs.Judgement.{inOrder, stateOk}
 use Rattle.load.specs.Loads.{shapeOk, valuesOk, valueCount, loadFault}
 use Rattle.state.specs.Tanks.{updateTanks}
-use Rattle.simulation.specs.Steps.{listed, timesOf, triggerOf, triggerAt, triggersOf, lengthOf, movedBy, nextHydraulicTimestep}
+use Rattle.simulation.specs.Steps.{timesOf, triggersOf, lengthOf, movedBy, nextHydraulicTimestep}
 use Rattle.calls.specs.Calls as calls
 use Rattle.calls.specs.Calls.{gives, start, premiseNumber}
 use Rattle.calls.specs.declared.PremiseAnswer.{PremiseAnswer}
 use Rattle.calls.specs.declared.PremiseAnswer.the-variants.{Truth, Refused}
+use Rattle.calls.specs.declared.StepCalled.{StepCalled}
 use Rattle.calls_sound.proofs.Step.{step-in-order, step-accepted, step-length, step-within, step-moves}
 use Rattle.calls_sound.proofs.Theorem.{tables-of, state-of, start-in-order, patterns-in-order, patterns-accepted, controls-in-order, controls-accepted, tank-links-in-order, tank-links-accepted, pressure-in-order, pressure-accepted, load-in-order, load-number, premise-number}
-use Rattle.list_words.specs.Calls.{Call, patterns, controls, load, tankLinks, pressure, premise, step, isStep}
+use Rattle.second_clock.specs.SecondClock as secondClock
+use Rattle.second_clock.specs.SecondClock.{secondApplies}
+use Rattle.second_clock.proofs.Laws.{second-number, second-in-order}
+use Rattle.second_clock.proofs.Same.{second-is-step}
+use Rattle.list_words.specs.Calls.{Call, patterns, controls, load, tankLinks, pressure, premise, step, second, isStep}
 use Rattle.demand3.specs.Calls.{asked, outcome}
 use Rattle.demand3.specs.Machine.{MayGive, machine}
 use Rattle.demand3.proofs.Quiet.{quiet, start-quiet}
@@ -63,7 +64,7 @@ zero-or-nine : (n : ℕ) (b : Bool) → n ≡ cond b 0 9 → (n ≡ 0) ⊎ (n �
 zero-or-nine n true e = inl e
 zero-or-nine n false e = inr e
 
-may-give : (p : Project) (c : Call) (s : State) → inOrder p s ≡ true → MayGive c (outcome p c s .number)
+may-give : (p : Project) (c : Call) (s : State) → inOrder p s ≡ true → MayGive p c (outcome p c s .number)
 unfolding outcome
 may-give p patterns s e = patterns-accepted p s e
 may-give p controls s e = controls-accepted p s e
@@ -72,6 +73,7 @@ may-give p tankLinks s e = tank-links-accepted p s e
 may-give p pressure s e = pressure-accepted p s e
 may-give p (premise i) s e = zero-or-nine _ (ltb i (p .counts .premises)) (asked-number (calls.premise p i s) s ∙ premise-number p s e i)
 may-give p step s e = step-accepted p s e
+may-give p second s e = second-number p s e
 
 -- ---- order
 stays : (p : Project) (c : Call) (s : State) → inOrder p s ≡ true → inOrder p (outcome p c s .state) ≡ true
@@ -83,6 +85,7 @@ stays p tankLinks s e = tank-links-in-order p s e
 stays p pressure s e = pressure-in-order p s e
 stays p (premise i) s e = ap (inOrder p) (asked-state (calls.premise p i s) s) ∙ e
 stays p step s e = step-in-order p s e
+stays p second s e = second-in-order p s e
 
 -- ---- the step
 abbrev hand : Clock → ℕ → Bool → Clock
@@ -103,7 +106,15 @@ step-clock p s e =
     (eqb-ind (λ b. cond b s (record { nodes = updateTanks p s (lengthOf p s) .nodes; links = updateTanks p s (lengthOf p s) .links; clock = advanced (s .clock) (lengthOf p s) }) .clock ≡ hand (s .clock) (lengthOf p s) b)
     (lengthOf p s) 0 (λ z. refl) (λ n. step-moves t o (lengthOf p s) n (step-within t o)))
 
-steps : (p : Project) (c : Call) (s : State) → inOrder p s ≡ true → isStep c ≡ true → Stepping (machine p) (timesOf p) (triggersOf p) c s
+-- a call that answers and leaves what the step does
+stepping : (p : Project) (s : State) → inOrder p s ≡ true → (c : StepCalled) → c ≡ calls.step p s
+    → (c .length ≡ lengthOf p s) × (c .state .clock .instant ≡ s .clock .instant + c .length) × (c .state .clock .count ≡ s .clock .count + bit (ltb 0 (c .length)))
+stepping p s e c same =
+    let l = step-length p s e in
+    let h = hand-moved (s .clock) (calls.step p s .state .clock) (lengthOf p s) (step-clock p s e) in
+    rw (same, l) (refl, h .0, h .1)
+
+steps : (p : Project) (c : Call) (s : State) → inOrder p s ≡ true → isStep (secondApplies p) c ≡ true → Stepping (machine p) (timesOf p) (triggersOf p) c s
 unfolding outcome lengthOf
 steps p patterns s e q = absurd (true≢false (sym q))
 steps p controls s e q = absurd (true≢false (sym q))
@@ -112,36 +123,11 @@ steps p tankLinks s e q = absurd (true≢false (sym q))
 steps p pressure s e q = absurd (true≢false (sym q))
 steps p (premise i) s e q = absurd (true≢false (sym q))
 steps p step s e q =
-    let l = step-length p s e in
-    let h = hand-moved (s .clock) (calls.step p s .state .clock) (lengthOf p s) (step-clock p s e) in
-    record { length = l; instant = rw l (h .0); count = rw l (h .1) }
-
--- ---- the tables
-each-last : {A : Type 0} (P : A → Type 0) (xs : List A) (x : A) → Each P xs → P x → Each P (xs ++ (x ∷ []))
-each-last P [] x e q = (q, tt)
-each-last P (y ∷ xs) x (a, e) q = (a, each-last P xs x e q)
-
-each-listed : {A : Type 0} (P : A → Type 0) (f : ℕ → A) (n : ℕ) → ((i : ℕ) → i < n → P (f i)) → Each P (listed n f)
-unfolding listed
-each-listed P f zero h = tt
-each-listed P f (suc n) h = each-last P (listed n f) (f n) (each-listed P f n (λ i l. h i (omega arith))) (h n (omega arith))
-
-clock-in-day : (nodes : ℕ) (c : ControlCondition) → ConditionFit nodes c → ClockInDay (triggerOf c)
-clock-in-day nodes (HighPressure n x) f = tt
-clock-in-day nodes (LowPressure n x) f = tt
-clock-in-day nodes (HighLevel n x) f = tt
-clock-in-day nodes (LowLevel n x) f = tt
-clock-in-day nodes (Time seconds) f = tt
-clock-in-day nodes (ClockTime seconds) f = f
-
-pub accepted-times : (p : Project) → TablesFit p → Accepted (timesOf p) (triggersOf p)
-unfolding timesOf triggersOf
-accepted-times p t = record {
-  report = t .options .report;
-  pattern = t .options .pattern;
-  duration = let d = t .options .duration in omega arith;
-  clocks = each-listed ClockInDay (triggerAt p) (p .counts .controls) (λ i l. clock-in-day _ (controlAt p i .condition) (t .control i l .condition));
-}
+    let k = stepping p s e (calls.step p s) refl in
+    record { length = k .0; instant = k .1; count = k .2 }
+steps p second s e q =
+    let k = stepping p s e (secondClock.second p s) (second-is-step p q s e) in
+    record { length = k .0; instant = k .1; count = k .2 }
 
 pub lawful : (p : Project) → Lawful (machine p) (timesOf p) (triggersOf p)
 lawful p = record {

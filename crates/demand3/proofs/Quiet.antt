@@ -1,5 +1,5 @@
--- No call but a step moves the clock: what each writes is a node's or a link's entry. Assumes nothing.
-use mathlib.Core.Path.{_≡_, refl, _∙_}
+-- No call but a step, by either clock, moves the clock: what each writes is a node's or a link's entry. Assumes nothing.
+use mathlib.Core.Path.{_≡_, refl, ap, _∙_}
 use mathlib.Core.Bool.{Bool, true, false, cond, true≢false}
 use mathlib.Core.List.{List}
 use Prim.Native.Nat.{ℕ}
@@ -24,7 +24,9 @@ use Rattle.calls.specs.declared.Called.{Called}
 use Rattle.calls.specs.declared.PremiseAnswer.{PremiseAnswer}
 use Rattle.calls.specs.declared.PremiseAnswer.the-variants.{Truth, Refused}
 use Rattle.calls.specs.declared.PressureCalled.{PressureCalled}
-use Rattle.list_words.specs.Calls.{Call, patterns, controls, load, tankLinks, pressure, premise, step, isStep}
+use Rattle.second_clock.specs.SecondClock.{secondApplies}
+use Rattle.second_clock.proofs.Laws.{second-refused}
+use Rattle.list_words.specs.Calls.{Call, patterns, controls, load, tankLinks, pressure, premise, step, second, isStep}
 use Rattle.demand3.specs.Calls.{asked, outcome}
 
 -- ---- the functions behind the calls
@@ -78,7 +80,7 @@ pressed-quiet : (p : Project) (s : State) (b : Bool)
 pressed-quiet p s true = pressure-quiet p s
 pressed-quiet p s false = refl
 
-pub quiet : (p : Project) (c : Call) (s : State) → isStep c ≡ false → outcome p c s .state .clock ≡ s .clock
+pub quiet : (p : Project) (c : Call) (s : State) → isStep (secondApplies p) c ≡ false → outcome p c s .state .clock ≡ s .clock
 unfolding outcome calls.patterns calls.controls calls.load calls.tankLinks calls.pressure
 quiet p patterns s e = judged-quiet p s _ (patterns-quiet p s)
 quiet p controls s e = judged-quiet p s _ (controls-quiet p s)
@@ -87,3 +89,4 @@ quiet p tankLinks s e = judged-quiet p s _ (closing-quiet p s)
 quiet p pressure s e = pressed-quiet p s (inOrder p s)
 quiet p (premise i) s e = asked-quiet (calls.premise p i s) s
 quiet p step s e = absurd (true≢false e)
+quiet p second s e = ap (λ (u : State). u .clock) (second-refused p s e .1)

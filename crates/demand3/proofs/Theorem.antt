@@ -11,10 +11,11 @@ use Rattle.tables.proofs.Fits.{tables-fit}
 use Rattle.image.specs.Image.{decode}
 use Rattle.image_accepted.proofs.Accepted.{accepted}
 use Rattle.simulation.specs.Steps.{timesOf, triggersOf}
+use Rattle.simulation.proofs.Accepted.{accepted-times}
 use Rattle.calls.specs.Calls.{start}
 use Rattle.list_words.specs.Calls.{Call}
 use Rattle.demand3.specs.Machine.{machine, Demand3}
-use Rattle.demand3.proofs.Lawful.{accepted-times, lawful, start-accepted, started}
+use Rattle.demand3.proofs.Lawful.{lawful, start-accepted, started}
 
 -- of tables that number 10 is not given for
 pub demand3-of-tables : (p : Project) → tablesOk p ≡ true → (calls : List Call) → Demand3 p calls (final (machine p) calls (start p .state))

@@ -8,7 +8,8 @@ use Rattle.calls.specs.declared.PressureCalled.{PressureCalled}
 use Rattle.calls.specs.declared.StepCalled.{StepCalled}
 use Rattle.calls.specs.declared.PremiseAnswer.{PremiseAnswer}
 use Rattle.calls.specs.declared.PremiseAnswer.the-variants.{Truth, Refused}
-use Rattle.list_words.specs.Calls.{Call, patterns, controls, load, tankLinks, pressure, premise, step}
+use Rattle.second_clock.specs.SecondClock as secondClock
+use Rattle.list_words.specs.Calls.{Call, patterns, controls, load, tankLinks, pressure, premise, step, second}
 use Rattle.demand3.specs.declared.Outcome.{Outcome}
 
 -- the number and the state, of a call that answers no more
@@ -20,7 +21,7 @@ abbrev pub asked : PremiseAnswer → State → Outcome
 asked (Truth b) s = record { number = 0; length = 0; truth = b; state = s }
 asked (Refused n) s = record { number = n; length = 0; truth = false; state = s }
 
--- whether the pressure pass changed anything; a step's length
+-- whether the pressure pass changed anything; a step's length, by either clock
 abbrev pub pressed : PressureCalled → Outcome
 pressed c = record { number = c .number; length = 0; truth = c .changed; state = c .state }
 
@@ -36,3 +37,4 @@ outcome p tankLinks s = called (calls.tankLinks p s)
 outcome p pressure s = pressed (calls.pressure p s)
 outcome p (premise i) s = asked (calls.premise p i s) s
 outcome p step s = stepped (calls.step p s)
+outcome p second s = stepped (secondClock.second p s)

@@ -2,7 +2,7 @@
 use Prim.Native.Nat.{ℕ}
 use mathlib.Core.Path.{_≡_}
 use mathlib.Core.Logic.{_⊎_}
-use mathlib.Core.Bool.{true}
+use mathlib.Core.Bool.{true, cond}
 use mathlib.Core.List.{List}
 use Rattle.clock.specs.Demand3.{Claim}
 use Rattle.clock.specs.Machine.{Machine}
@@ -11,18 +11,21 @@ use Rattle.model.specs.declared.state.State.{State}
 use Rattle.judge.specs.Judgement.{inOrder}
 use Rattle.simulation.specs.Steps.{Level, timesOf, triggersOf, momentOf}
 use Rattle.calls.specs.Calls.{start}
-use Rattle.list_words.specs.Calls.{Call, patterns, controls, load, tankLinks, pressure, premise, step, isStep}
+use Rattle.second_clock.specs.SecondClock.{secondApplies}
+use Rattle.list_words.specs.Calls.{Call, patterns, controls, load, tankLinks, pressure, premise, step, second, isStep}
 use Rattle.demand3.specs.Calls.{outcome}
 
--- "Only loads and premises can be refused there": a load with 7 or 8, a premise with 9
-abbrev pub MayGive : Call → ℕ → Type 0
-MayGive patterns n = n ≡ 0
-MayGive controls n = n ≡ 0
-MayGive (load words) n = (n ≡ 0) ⊎ (n ≡ 7) ⊎ (n ≡ 8)
-MayGive tankLinks n = n ≡ 0
-MayGive pressure n = n ≡ 0
-MayGive (premise i) n = (n ≡ 0) ⊎ (n ≡ 9)
-MayGive step n = n ≡ 0
+-- "Only loads and premises can be refused there": a load with 7 or 8, a premise with 9. Document 02, R-10, "in lists where 14 may come too": the second
+-- clock gives it on every project that it does not serve, and on no other
+abbrev pub MayGive : Project → Call → ℕ → Type 0
+MayGive p patterns n = n ≡ 0
+MayGive p controls n = n ≡ 0
+MayGive p (load words) n = (n ≡ 0) ⊎ (n ≡ 7) ⊎ (n ≡ 8)
+MayGive p tankLinks n = n ≡ 0
+MayGive p pressure n = n ≡ 0
+MayGive p (premise i) n = (n ≡ 0) ⊎ (n ≡ 9)
+MayGive p step n = n ≡ 0
+MayGive p second n = n ≡ cond (secondApplies p) 0 14
 
 abbrev pub machine : Project → Machine Level
 machine p = record {
@@ -30,12 +33,12 @@ machine p = record {
   Call = Call;
   number = λ c s. outcome p c s .number;
   after = λ c s. outcome p c s .state;
-  isStep = isStep;
+  isStep = isStep (secondApplies p);
   answer = λ c s. outcome p c s .length;
   instant = λ s. s .clock .instant;
   count = λ s. s .clock .count;
   moment = momentOf p;
-  MayGive = MayGive;
+  MayGive = MayGive p;
   Sound = λ s. inOrder p s ≡ true;
 }
 

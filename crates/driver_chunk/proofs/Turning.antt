@@ -17,13 +17,14 @@ use Rattle.model.specs.declared.project.Project.{Project}
 use Rattle.model.specs.declared.state.State.{State}
 use Rattle.judge.specs.Judgement.{inOrder}
 use Rattle.simulation.specs.Steps.{timesOf, triggersOf, momentOf}
+use Rattle.simulation.proofs.Accepted.{accepted-times}
 use Rattle.calls.specs.Calls.{patterns, controls, load, tankLinks, step}
 use Rattle.calls_sound.proofs.Theorem.{load-in-order, tank-links-in-order}
 use Rattle.calls_sound.proofs.Step.{step-in-order}
 use Rattle.list_words.specs.Calls as asking
 use Rattle.demand3.specs.Calls.{outcome}
 use Rattle.demand3.proofs.Quiet.{quiet}
-use Rattle.demand3.proofs.Lawful.{lawful, accepted-times}
+use Rattle.demand3.proofs.Lawful.{lawful}
 use Rattle.driver_load.specs.Sizes.{loadWords, loadBytes}
 use Rattle.driver_load.proofs.Inner.{fit}
 use Rattle.driver_turn.specs.Turns.{Turn, prepared, stepTurn, endTurn, loadTurn, inputTurn, turn}

@@ -28,7 +28,7 @@ fn print_up_to_load(p: Project, s: State) {
     print(load.number);
 }
 
-// Closing, the pressure pass, premise 0 and the step.
+// Closing, the pressure pass, premise 0, and the step by either clock.
 fn print_after_load(p: Project, s: State) {
     let close = calls::update_tank_links(p, s);
     print(close.number);
@@ -37,6 +37,8 @@ fn print_after_load(p: Project, s: State) {
     print(premise_number(calls::premise_truth(p, s, 0)));
     let step = calls::next_hydraulic_timestep(p, s);
     print(step.number);
+    let slow = second_clock::step_by_seconds(p, s);
+    print(slow.number);
 }
 
 pub fn print_numbers(p: Project, s: State) {

@@ -111,5 +111,8 @@ pub fn first_call(p: Project, s: State, words: &[u32]) -> Outcome
         let i = word(words, 1) as usize;
         return asked(calls::premise_truth(p, s, i), s);
     }
-    stepped(calls::next_hydraulic_timestep(p, s))
+    if code == 7 {
+        return stepped(calls::next_hydraulic_timestep(p, s));
+    }
+    stepped(second_clock::step_by_seconds(p, s))
 }

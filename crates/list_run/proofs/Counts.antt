@@ -24,7 +24,9 @@ use Rattle.calls.specs.Calls.{start}
 use Rattle.calls.specs.declared.PremiseAnswer.{PremiseAnswer}
 use Rattle.calls.specs.declared.PremiseAnswer.the-variants.{Truth, Refused}
 use Rattle.image.proofs.Turns.{rest}
-use Rattle.list_words.specs.Calls.{Call, patterns, controls, load, tankLinks, pressure, premise, step, isStep}
+use Rattle.second_clock.specs.SecondClock.{secondApplies}
+use Rattle.second_clock.proofs.Laws.{second-refused}
+use Rattle.list_words.specs.Calls.{Call, patterns, controls, load, tankLinks, pressure, premise, step, second, isStep}
 use Rattle.list_words.specs.Lists.{callOf, callLength, callOk, callsOf, listOk}
 use Rattle.list_words.proofs.Lists.{calls-here, ok-here, fits-here, calls-end}
 use Rattle.demand3.specs.Calls.{asked as askedOf, outcome}
@@ -41,7 +43,7 @@ asked-length : (a : PremiseAnswer) (s : State) → askedOf a s .length ≡ 0
 asked-length (Truth b) s = refl
 asked-length (Refused n) s = refl
 
-length-quiet : (p : Project) (c : Call) (s : State) → isStep c ≡ false → outcome p c s .length ≡ 0
+length-quiet : (p : Project) (c : Call) (s : State) → isStep (secondApplies p) c ≡ false → outcome p c s .length ≡ 0
 unfolding outcome
 length-quiet p patterns s e = refl
 length-quiet p controls s e = refl
@@ -50,6 +52,7 @@ length-quiet p tankLinks s e = refl
 length-quiet p pressure s e = refl
 length-quiet p (premise i) s e = asked-length (calls.premise p i s) s
 length-quiet p step s e = absurd (true≢false e)
+length-quiet p second s e = second-refused p s e .0
 
 abbrev moveOf : ℕ → ℕ → ℕ
 moveOf after before = bit (not (eqb after before))
@@ -64,16 +67,16 @@ moving after before length e =
 
 module _ (p : Project) (c : Call) (s : State) (k : inOrder p s ≡ true) where
   after-instant : outcome p c s .state .clock .instant ≡ s .clock .instant + outcome p c s .length
-  after-instant = go (isStep c) refl
+  after-instant = go (isStep (secondApplies p) c) refl
     where
-      go : (b : Bool) → isStep c ≡ b → outcome p c s .state .clock .instant ≡ s .clock .instant + outcome p c s .length
+      go : (b : Bool) → isStep (secondApplies p) c ≡ b → outcome p c s .state .clock .instant ≡ s .clock .instant + outcome p c s .length
       go true e = lawful p .step c s k e .instant
       go false e = omega (arith, lawful p .quiet c s k e .instant, length-quiet p c s e)
 
   after-count : outcome p c s .state .clock .count ≡ s .clock .count + moveOf (outcome p c s .state .clock .instant) (s .clock .instant)
-  after-count = go (isStep c) refl
+  after-count = go (isStep (secondApplies p) c) refl
     where
-      go : (b : Bool) → isStep c ≡ b → outcome p c s .state .clock .count ≡ s .clock .count + moveOf (outcome p c s .state .clock .instant) (s .clock .instant)
+      go : (b : Bool) → isStep (secondApplies p) c ≡ b → outcome p c s .state .clock .count ≡ s .clock .count + moveOf (outcome p c s .state .clock .instant) (s .clock .instant)
       go true e = omega (arith, lawful p .step c s k e .count, moving (outcome p c s .state .clock .instant) (s .clock .instant) (outcome p c s .length) after-instant)
       go false e = omega (arith, lawful p .quiet c s k e .count, still (outcome p c s .state .clock .instant) (s .clock .instant) (lawful p .quiet c s k e .instant))
 
@@ -88,7 +91,7 @@ module _ (p : Project) (c : Call) (s : State) (k : inOrder p s ≡ true) where
 
 -- a call counted, from its parts
 pub counted-is :
-    (p : Project) (c : Call) (r : ListRun) (o : Outcome) (n m : ℕ) → o ≡ outcome p c (r .state) → n ≡ bit (isStep c)
+    (p : Project) (c : Call) (r : ListRun) (o : Outcome) (n m : ℕ) → o ≡ outcome p c (r .state) → n ≡ bit (isStep (secondApplies p) c)
     → m ≡ r .moves + moveOf (o .state .clock .instant) (r .state .clock .instant)
     → record { number = r .number; state = o .state; asked = r .asked + n; answered = r .answered + o .length; moves = m } ≡ counted p c r
 unfolding counted
@@ -115,7 +118,7 @@ pub counted-fits : (p : Project) (c : Call) (r : ListRun) (at next : ℕ) → at
 unfolding counted
 counted-fits p c r at next l f = record {
   order = lawful p .sound c (r .state) (f .order);
-  asks = omega (arith, f .asks, bit-most (isStep c));
+  asks = omega (arith, f .asks, bit-most (isStep (secondApplies p) c));
   sum = omega (arith, f .sum, after-instant p c (r .state) (f .order));
   moving = omega (arith, f .moving, after-count p c (r .state) (f .order));
 }
@@ -179,9 +182,9 @@ module _ (p : Project) where
   all-answered : (cs : List Call) (r : ListRun) → countedAll p cs r .answered ≡ r .answered + answered (machine p) cs (r .state)
   unfolding countedAll counted answered
   all-answered [] r = omega arith
-  all-answered (c ∷ cs) r = omega (arith, all-answered cs (counted p c r), answer-is (isStep c) refl)
+  all-answered (c ∷ cs) r = omega (arith, all-answered cs (counted p c r), answer-is (isStep (secondApplies p) c) refl)
     where
-      answer-is : (b : Bool) → isStep c ≡ b → cond b (outcome p c (r .state) .length) 0 ≡ outcome p c (r .state) .length
+      answer-is : (b : Bool) → isStep (secondApplies p) c ≡ b → cond b (outcome p c (r .state) .length) 0 ≡ outcome p c (r .state) .length
       answer-is true e = refl
       answer-is false e = sym (length-quiet p c (r .state) e)
 

@@ -8,6 +8,7 @@ use Rattle.clock.specs.Machine.{bit, asked, answered, timesMoved}
 use Rattle.model.specs.declared.project.Project.{Project}
 use Rattle.model.specs.declared.state.State.{State}
 use Rattle.calls.specs.Calls.{start}
+use Rattle.second_clock.specs.SecondClock.{secondApplies}
 use Rattle.list_words.specs.Calls.{Call, isStep}
 use Rattle.list_words.specs.Lists.{callsOf, listOk}
 use Rattle.demand3.specs.Calls.{outcome}
@@ -17,14 +18,14 @@ use Rattle.list_run.specs.declared.ListRun.{ListRun}
 abbrev pub noneRun : ℕ → State → ListRun
 noneRun n s = record { number = n; state = s; asked = 0; answered = 0; moves = 0 }
 
--- a call more: steps asked, the sum of the steps answered, and the times that the clock moved
+-- a call more: steps asked, the sum of the steps answered, both by either clock, and the times that the clock moved
 unfoldable pub counted : Project → Call → ListRun → ListRun
 counted p c r =
     let o = outcome p c (r .state) in
     record {
       number = r .number;
       state = o .state;
-      asked = r .asked + bit (isStep c);
+      asked = r .asked + bit (isStep (secondApplies p) c);
       answered = r .answered + o .length;
       moves = r .moves + bit (not (eqb (o .state .clock .instant) (r .state .clock .instant)));
     }

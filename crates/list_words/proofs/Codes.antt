@@ -2,16 +2,15 @@
 use Prim.Native.Nat.{ℕ}
 use Prim.Native.Nat.{_≤_, _<_}
 use mathlib.Core.Path.{_≡_, refl, sym, ap, _∙_}
-use mathlib.Core.Bool.{Bool, true, false, _&&_}
+use mathlib.Core.Bool.{Bool, true, false, _&&_, _||_}
 use mathlib.Core.List.{List, [], _∷_}
 use native.Mathlib.Omega.{arith}
 use borrow.Author.Tests.{ne-eqb, le-leb, lt-leb}
-use lib.Dec.{leb}
+use lib.Dec.{eqb, leb}
 use lib.ListN.{length, take, drop}
 use Rattle.clock.proofs.Tests.{eqb-ind, leb-ind}
-use Rattle.clock.specs.Machine.{bit}
 use Rattle.image_entry.specs.Words.{word}
-use Rattle.list_words.specs.Calls.{patterns, controls, load, tankLinks, pressure, premise, step, isStep}
+use Rattle.list_words.specs.Calls.{patterns, controls, load, tankLinks, pressure, premise, step, second, isStep}
 use Rattle.list_words.specs.Lists.{callOf, callLength, callOk, asksStep}
 
 module _ (words : List ℕ) (code : ℕ) (is : code ≡ word words 0) where
@@ -39,9 +38,13 @@ module _ (words : List ℕ) (code : ℕ) (is : code ≡ word words 0) where
   unfolding callOf
   code-6 e = rw (← is, e)
 
-  pub code-7 : (code ≡ 1 → ⊥) → (code ≡ 2 → ⊥) → (code ≡ 3 → ⊥) → (code ≡ 4 → ⊥) → (code ≡ 5 → ⊥) → (code ≡ 6 → ⊥) → callOf words ≡ step
+  pub code-7 : code ≡ 7 → callOf words ≡ step
   unfolding callOf
-  code-7 a b c d e f = rw (← is, ne-eqb code 1 a, ne-eqb code 2 b, ne-eqb code 3 c, ne-eqb code 4 d, ne-eqb code 5 e, ne-eqb code 6 f)
+  code-7 e = rw (← is, e)
+
+  pub code-8 : (code ≡ 1 → ⊥) → (code ≡ 2 → ⊥) → (code ≡ 3 → ⊥) → (code ≡ 4 → ⊥) → (code ≡ 5 → ⊥) → (code ≡ 6 → ⊥) → (code ≡ 7 → ⊥) → callOf words ≡ second
+  unfolding callOf
+  code-8 a b c d e f g = rw (← is, ne-eqb code 1 a, ne-eqb code 2 b, ne-eqb code 3 c, ne-eqb code 4 d, ne-eqb code 5 e, ne-eqb code 6 f, ne-eqb code 7 g)
 
 -- ---- which asks for a step
 none-quiet : (b : Bool) → (b && false) ≡ false
@@ -53,52 +56,60 @@ some-word : (words : List ℕ) → 0 < word words 0 → 1 ≤ length words
 some-word [] l = absurd (omega arith)
 some-word (w ∷ ws) l = omega arith
 
-past-three : (code : ℕ) → 1 ≤ code → (code ≡ 1 → ⊥) → (code ≡ 2 → ⊥) → (code ≡ 3 → ⊥) → 4 ≤ code
-past-three code l a b c = omega arith
+past-four : (code : ℕ) → 1 ≤ code → (code ≡ 1 → ⊥) → (code ≡ 2 → ⊥) → (code ≡ 3 → ⊥) → (code ≡ 4 → ⊥) → 5 ≤ code
+past-four code l a b c d = omega arith
 
-past-seven : (code : ℕ) → 4 ≤ code → (code ≡ 4 → ⊥) → (code ≡ 5 → ⊥) → (code ≡ 6 → ⊥) → (code ≡ 7 → ⊥) → 7 < code
-past-seven code l a b c d = omega arith
+past-eight : (code : ℕ) → 5 ≤ code → (code ≡ 5 → ⊥) → (code ≡ 6 → ⊥) → (code ≡ 7 → ⊥) → (code ≡ 8 → ⊥) → 8 < code
+past-eight code l a b c d = omega arith
 
-module _ (words : List ℕ) (code : ℕ) (is : code ≡ word words 0) where
-  step-asked : code ≡ 7 → asksStep words ≡ true
+no-code :
+    (code : ℕ) (rest : Bool) → (code ≡ 1 → ⊥) → (code ≡ 2 → ⊥) → (code ≡ 3 → ⊥) → (code ≡ 4 → ⊥) → (code ≡ 5 → ⊥) → (code ≡ 6 → ⊥) → (code ≡ 7 → ⊥) → (code ≡ 8 → ⊥)
+    → (leb 1 code && leb code 8 && rest) ≡ false
+no-code code rest a b c d e f g h =
+    leb-ind (λ k. (k && leb code 8 && rest) ≡ false) 1 code
+    (λ l. rw (lt-leb code 8 (past-eight code (past-four code l a b c d) e f g h)))
+    (λ l. refl)
+
+module _ (serves : Bool) (words : List ℕ) (code : ℕ) (is : code ≡ word words 0) where
+  step-asked : code ≡ 7 → asksStep serves words ≡ true
   unfolding asksStep callOk callLength callOf
   step-asked e = rw (← is, e, le-leb 1 (length words) (some-word words (omega (arith, is, e))))
 
+  second-asked : code ≡ 8 → asksStep serves words ≡ serves
+  unfolding asksStep callOk callLength callOf
+  second-asked e = rw (← is, e, le-leb 1 (length words) (some-word words (omega (arith, is, e))))
+
   no-call :
-      (code ≡ 1 → ⊥) → (code ≡ 2 → ⊥) → (code ≡ 3 → ⊥) → (code ≡ 4 → ⊥) → (code ≡ 5 → ⊥) → (code ≡ 6 → ⊥) → (code ≡ 7 → ⊥)
+      (code ≡ 1 → ⊥) → (code ≡ 2 → ⊥) → (code ≡ 3 → ⊥) → (code ≡ 4 → ⊥) → (code ≡ 5 → ⊥) → (code ≡ 6 → ⊥) → (code ≡ 7 → ⊥) → (code ≡ 8 → ⊥)
       → callOk words ≡ false
   unfolding callOk
-  no-call a b c d e f g =
-      rw (← is)
-      (leb-ind (λ k. (k && leb code 7 && leb (callLength words) (length words)) ≡ false) 1 code
-      (λ l. rw (lt-leb code 7 (past-seven code (past-three code l a b c) d e f g)))
-      (λ l. refl))
+  no-call a b c d e f g h = rw (← is) (no-code code _ a b c d e f g h)
 
-  -- another code asks for none: it is another call's, or no call's
-  none-asked : (code ≡ 7 → ⊥) → asksStep words ≡ false
+  abbrev ByCode : Type 0
+  ByCode = asksStep serves words ≡ (eqb code 7 || (eqb code 8 && serves))
+
+  -- a step's code asks for one, the second clock's where it serves, and another for none: it is another call's, or no call's
+  pub asked-by-code : ByCode
   unfolding asksStep
-  none-asked n =
-      eqb-ind (λ b. asksStep words ≡ false) code 1 (λ e. quiet (ap isStep (code-1 words code is e)))
-      (λ a. eqb-ind (λ b. asksStep words ≡ false) code 2 (λ e. quiet (ap isStep (code-2 words code is e)))
-      (λ b. eqb-ind (λ b. asksStep words ≡ false) code 3 (λ e. quiet (ap isStep (code-3 words code is e)))
-      (λ c. eqb-ind (λ b. asksStep words ≡ false) code 4 (λ e. quiet (ap isStep (code-4 words code is e)))
-      (λ d. eqb-ind (λ b. asksStep words ≡ false) code 5 (λ e. quiet (ap isStep (code-5 words code is e)))
-      (λ f. eqb-ind (λ b. asksStep words ≡ false) code 6 (λ e. quiet (ap isStep (code-6 words code is e)))
-      (λ g. refused a b c d f g))))))
+  asked-by-code =
+      eqb-ind (λ k. ByCode) code 7 (λ e. step-asked e ∙ sym (rw e))
+      (λ g. eqb-ind (λ k. ByCode) code 8 (λ e. second-asked e ∙ sym (rw e))
+      (λ h. none g h
+      (eqb-ind (λ k. asksStep serves words ≡ false) code 1 (λ e. quiet (ap (isStep serves) (code-1 words code is e)))
+      (λ a. eqb-ind (λ k. asksStep serves words ≡ false) code 2 (λ e. quiet (ap (isStep serves) (code-2 words code is e)))
+      (λ b. eqb-ind (λ k. asksStep serves words ≡ false) code 3 (λ e. quiet (ap (isStep serves) (code-3 words code is e)))
+      (λ c. eqb-ind (λ k. asksStep serves words ≡ false) code 4 (λ e. quiet (ap (isStep serves) (code-4 words code is e)))
+      (λ d. eqb-ind (λ k. asksStep serves words ≡ false) code 5 (λ e. quiet (ap (isStep serves) (code-5 words code is e)))
+      (λ f. eqb-ind (λ k. asksStep serves words ≡ false) code 6 (λ e. quiet (ap (isStep serves) (code-6 words code is e)))
+      (λ k. ap (λ w. w && isStep serves (callOf words)) (no-call a b c d f k g h))))))))))
     where
-      quiet : isStep (callOf words) ≡ false → asksStep words ≡ false
+      quiet : isStep serves (callOf words) ≡ false → asksStep serves words ≡ false
       quiet e = ap (λ b. callOk words && b) e ∙ none-quiet (callOk words)
 
-      refused : (code ≡ 1 → ⊥) → (code ≡ 2 → ⊥) → (code ≡ 3 → ⊥) → (code ≡ 4 → ⊥) → (code ≡ 5 → ⊥) → (code ≡ 6 → ⊥) → asksStep words ≡ false
-      refused a b c d f g = ap (λ k. k && isStep (callOf words)) (no-call a b c d f g n)
-
-  pub asked-one : code ≡ 7 → 1 ≡ bit (asksStep words)
-  asked-one e = rw (step-asked e)
-
-  pub asked-none : (code ≡ 7 → ⊥) → 0 ≡ bit (asksStep words)
-  asked-none n = rw (none-asked n)
+      none : (code ≡ 7 → ⊥) → (code ≡ 8 → ⊥) → asksStep serves words ≡ false → ByCode
+      none g h e = e ∙ sym (rw (ne-eqb code 7 g, ne-eqb code 8 h))
 
 -- of a call that is one
-pub asks-step : (words : List ℕ) → callOk words ≡ true → asksStep words ≡ isStep (callOf words)
+pub asks-step : (serves : Bool) (words : List ℕ) → callOk words ≡ true → asksStep serves words ≡ isStep serves (callOf words)
 unfolding asksStep
-asks-step words ok = rw ok
+asks-step serves words ok = rw ok

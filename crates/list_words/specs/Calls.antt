@@ -1,5 +1,5 @@
 -- "Take any list of these calls, refused ones included, from an accepted project's start: patterns, controls, loads, tank-link closing, pressure pass,
--- premises, steps."
+-- premises, steps." Document 02, R-10, adds the step by the second clock.
 use Prim.Native.Nat.{ℕ}
 use mathlib.Core.Bool.{Bool, true, false}
 use mathlib.Core.List.{List}
@@ -12,12 +12,15 @@ pub data Call : Type 0 where
   pressure : Call
   premise : ℕ → Call
   step : Call
+  second : Call
 
-abbrev pub isStep : Call → Bool
-isStep patterns = false
-isStep controls = false
-isStep (load words) = false
-isStep tankLinks = false
-isStep pressure = false
-isStep (premise i) = false
-isStep step = true
+-- whether a call asks for a step, on a project that the second clock serves or does not: "a refused step is not one asked"
+abbrev pub isStep : Bool → Call → Bool
+isStep serves patterns = false
+isStep serves controls = false
+isStep serves (load words) = false
+isStep serves tankLinks = false
+isStep serves pressure = false
+isStep serves (premise i) = false
+isStep serves step = true
+isStep serves second = serves

@@ -27,18 +27,18 @@ pub fn call_ok(words: &[u32]) -> bool
     if code < 1 {
         return false;
     }
-    if 7 < code {
+    if 8 < code {
         return false;
     }
     call_length(words) <= words.len()
 }
 
-// 1 where the first call is one and asks for a step, else 0.
-pub fn steps_asked(words: &[u32]) -> u64
-    ensures { λ r. ⌜ r ≡ bit (asksStep (now (words .entry))) ⌝ }
+// 1 where the first call is one and asks for a step, else 0, on a project that the second clock serves or does not.
+pub fn steps_asked(words: &[u32], serves: bool) -> u64
+    ensures { λ r. ⌜ r ≡ bit (asksStep serves (now (words .entry))) ⌝ }
 {
     let code = word(words, 0);
-    if code == 7 {
+    if (code == 7) | ((code == 8) & serves) {
         return 1;
     }
     0

@@ -1,7 +1,7 @@
 -- Pieces of a line put one behind the other, and how long they are. Assumes nothing.
 use Prim.Native.Nat.{ℕ, zero, suc, _+_, _*_, _/_, _%_, min, _≤_, _<_}
 use mathlib.Core.Path.{_≡_, refl, sym, ap, _∙_}
-use mathlib.Core.Bool.{Bool, true, false, cond}
+use mathlib.Core.Bool.{Bool, true, false, cond, _||_}
 use mathlib.Core.List.{List, [], _∷_, _++_}
 use native.Mathlib.Numerals.{add-one}
 use native.Mathlib.Omega.{arith}
@@ -121,9 +121,13 @@ module _ (code : ℕ) where
   unfolding nameText
   name-6 e = rw e
 
-  pub name-7 : (code ≡ 1 → ⊥) → (code ≡ 2 → ⊥) → (code ≡ 3 → ⊥) → (code ≡ 4 → ⊥) → (code ≡ 5 → ⊥) → (code ≡ 6 → ⊥) → (115 ∷ 116 ∷ 101 ∷ 112 ∷ 32 ∷ []) ≡ nameText code
+  pub name-7 : code ≡ 7 → (115 ∷ 116 ∷ 101 ∷ 112 ∷ 32 ∷ []) ≡ nameText code
   unfolding nameText
-  name-7 a b c d e f = rw (ne-eqb code 1 a, ne-eqb code 2 b, ne-eqb code 3 c, ne-eqb code 4 d, ne-eqb code 5 e, ne-eqb code 6 f)
+  name-7 e = rw e
+
+  pub name-8 : (code ≡ 1 → ⊥) → (code ≡ 2 → ⊥) → (code ≡ 3 → ⊥) → (code ≡ 4 → ⊥) → (code ≡ 5 → ⊥) → (code ≡ 6 → ⊥) → (code ≡ 7 → ⊥) → (115 ∷ 108 ∷ 111 ∷ 119 ∷ 32 ∷ []) ≡ nameText code
+  unfolding nameText
+  name-8 a b c d e f g = rw (ne-eqb code 1 a, ne-eqb code 2 b, ne-eqb code 3 c, ne-eqb code 4 d, ne-eqb code 5 e, ne-eqb code 6 f, ne-eqb code 7 g)
 
   pub name-short : length (nameText code) ≤ 9
   unfolding nameText
@@ -132,7 +136,7 @@ module _ (code : ℕ) where
       (either-short 9 (eqb code 2) _ _ (omega arith)
       (either-short 9 (eqb code 3) _ _ (omega arith)
       (either-short 9 (eqb code 4) _ _ (omega arith)
-      (either-short 9 (eqb code 5) _ _ (omega arith) (either-short 9 (eqb code 6) _ _ (omega arith) (omega arith))))))
+      (either-short 9 (eqb code 5) _ _ (omega arith) (either-short 9 (eqb code 6) _ _ (omega arith) (either-short 9 (eqb code 7) _ _ (omega arith) (omega arith)))))))
 
 pub truth-true : (b : Bool) → b ≡ true → (116 ∷ 114 ∷ 117 ∷ 101 ∷ []) ≡ truthText b
 unfolding truthText
@@ -148,9 +152,9 @@ truth-short true = omega arith
 truth-short false = omega arith
 
 module _ (code seconds : ℕ) (truth : Bool) where
-  pub given-7 : code ≡ 7 → decimalText seconds ≡ givenText code seconds truth
+  pub given-length : (eqb code 7 || eqb code 8) ≡ true → decimalText seconds ≡ givenText code seconds truth
   unfolding givenText
-  given-7 e = rw e
+  given-length e = rw e
 
   pub given-6 : code ≡ 6 → truthText truth ≡ givenText code seconds truth
   unfolding givenText
@@ -160,15 +164,15 @@ module _ (code seconds : ℕ) (truth : Bool) where
   unfolding givenText
   given-5 e = rw e
 
-  pub given-ok : (code ≡ 7 → ⊥) → (code ≡ 6 → ⊥) → (code ≡ 5 → ⊥) → (111 ∷ 107 ∷ []) ≡ givenText code seconds truth
+  pub given-ok : (eqb code 7 || eqb code 8) ≡ false → (code ≡ 6 → ⊥) → (code ≡ 5 → ⊥) → (111 ∷ 107 ∷ []) ≡ givenText code seconds truth
   unfolding givenText
-  given-ok a b c = rw (ne-eqb code 7 a, ne-eqb code 6 b, ne-eqb code 5 c)
+  given-ok a b c = rw (a, ne-eqb code 6 b, ne-eqb code 5 c)
 
   pub given-short : length (givenText code seconds truth) ≤ 10
   unfolding givenText
   given-short =
       let t : length (truthText truth) ≤ 10 = omega (arith, truth-short truth) in
-      either-short 10 (eqb code 7) _ _ (digits-count 9 seconds .1) (either-short 10 (eqb code 6) _ _ t (either-short 10 (eqb code 5) _ _ t (omega arith)))
+      either-short 10 (eqb code 7 || eqb code 8) _ _ (digits-count 9 seconds .1) (either-short 10 (eqb code 6) _ _ t (either-short 10 (eqb code 5) _ _ t (omega arith)))
 
 pub refused-short : (number : ℕ) → length (refusedText number) ≤ 18
 unfolding refusedText

@@ -1,7 +1,7 @@
 -- The lines that the program `replay` prints, as bytes. What is quoted is the description of that program; compare/rust/README.md has it too.
 -- Assumes nothing.
 use Prim.Native.Nat.{ℕ, zero, suc, min, _/_, _%_, _^_}
-use mathlib.Core.Bool.{Bool, cond}
+use mathlib.Core.Bool.{Bool, cond, _||_}
 use mathlib.Core.List.{List, [], _∷_, _++_}
 use lib.Dec.{eqb, ltb}
 use lib.Ieee.{Float, binary64, toBits}
@@ -45,7 +45,7 @@ stateText c s =
     (((wordText (s .clock .instant) ++ wordText (s .clock .count)) ++ nodesText (min (c .nodes) 256) s) ++ linksText (min (c .links) 384) s) ++ (10 ∷ [])
 
 -- "`patterns ok`, `controls ok`, `load ok` or `load refused=N`, `close ok`, `pressure true` or `pressure false`, `premise true`, `premise false` or
--- `premise refused=N`, `step L` with the length in decimal"
+-- `premise refused=N`, `step L` with the length in decimal, `slow L` or `slow refused=14`"
 
 -- the name of a call by its code, and a space
 unfoldable pub nameText : ℕ → List ℕ
@@ -55,15 +55,16 @@ nameText code =
     (cond (eqb code 3) (108 ∷ 111 ∷ 97 ∷ 100 ∷ 32 ∷ [])
     (cond (eqb code 4) (99 ∷ 108 ∷ 111 ∷ 115 ∷ 101 ∷ 32 ∷ [])
     (cond (eqb code 5) (112 ∷ 114 ∷ 101 ∷ 115 ∷ 115 ∷ 117 ∷ 114 ∷ 101 ∷ 32 ∷ [])
-    (cond (eqb code 6) (112 ∷ 114 ∷ 101 ∷ 109 ∷ 105 ∷ 115 ∷ 101 ∷ 32 ∷ []) (115 ∷ 116 ∷ 101 ∷ 112 ∷ 32 ∷ []))))))
+    (cond (eqb code 6) (112 ∷ 114 ∷ 101 ∷ 109 ∷ 105 ∷ 115 ∷ 101 ∷ 32 ∷ [])
+    (cond (eqb code 7) (115 ∷ 116 ∷ 101 ∷ 112 ∷ 32 ∷ []) (115 ∷ 108 ∷ 111 ∷ 119 ∷ 32 ∷ [])))))))
 
 unfoldable pub truthText : Bool → List ℕ
 truthText b = cond b (116 ∷ 114 ∷ 117 ∷ 101 ∷ []) (102 ∷ 97 ∷ 108 ∷ 115 ∷ 101 ∷ [])
 
--- what a call gives that was not refused: a step its length, a premise its truth, the pressure pass whether it changed anything
+-- what a call gives that was not refused: a step by either clock its length, a premise its truth, the pressure pass whether it changed anything
 unfoldable pub givenText : ℕ → ℕ → Bool → List ℕ
 givenText code seconds truth =
-    cond (eqb code 7) (decimalText seconds) (cond (eqb code 6) (truthText truth) (cond (eqb code 5) (truthText truth) (111 ∷ 107 ∷ [])))
+    cond (eqb code 7 || eqb code 8) (decimalText seconds) (cond (eqb code 6) (truthText truth) (cond (eqb code 5) (truthText truth) (111 ∷ 107 ∷ [])))
 
 unfoldable pub refusedText : ℕ → List ℕ
 refusedText number = (114 ∷ 101 ∷ 102 ∷ 117 ∷ 115 ∷ 101 ∷ 100 ∷ 61 ∷ []) ++ decimalText number

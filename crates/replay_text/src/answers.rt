@@ -31,7 +31,10 @@ fn put_name(out: &mut [u8], at: usize, code: u32) -> usize
     if code == 6 {
         return put_text(out, at, b"premise ");
     }
-    put_text(out, at, b"step ")
+    if code == 7 {
+        return put_text(out, at, b"step ");
+    }
+    put_text(out, at, b"slow ")
 }
 
 fn put_truth(out: &mut [u8], at: usize, b: bool) -> usize
@@ -51,7 +54,7 @@ fn put_given(out: &mut [u8], at: usize, code: u32, seconds: u32, truth: bool) ->
     ensures { λ r. ⌜ r ≡ at + length (givenText code seconds truth) ⌝ }
     ensures { λ _. ⌜ now (out .exit) ≡ pasted (now (out .entry)) at (givenText code seconds truth) ⌝ }
 {
-    if code == 7 {
+    if (code == 7) | (code == 8) {
         return put_decimal(out, at, seconds);
     }
     if code == 6 {

@@ -13,7 +13,7 @@ use model::*;
 use number::constants::MAX;
 use state_node::tank_candidate;
 
-fn no_tanks(p: Project) -> bool
+pub fn no_tanks(p: Project) -> bool
     requires { ⌜ TablesFit p ⌝ }
     ensures { λ r. ⌜ r ≡ noTanks p ⌝ }
 {

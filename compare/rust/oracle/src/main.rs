@@ -9,6 +9,7 @@ mod network;
 mod progress;
 mod project;
 mod replay;
+mod second_clock;
 
 use std::io::{self, BufWriter, Read, Write};
 use std::process::ExitCode;

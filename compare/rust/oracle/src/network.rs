@@ -90,7 +90,7 @@ fn options(project: &Project) -> SimulationOptions {
 }
 
 /// Document 02, R-7: "comparison runs give the Rust 3,600" where the field is 0.
-fn hydraulic_in_force(hydraulic_timestep: u32) -> usize {
+pub fn hydraulic_in_force(hydraulic_timestep: u32) -> usize {
     if hydraulic_timestep == 0 { 3600 } else { hydraulic_timestep as usize }
 }
 

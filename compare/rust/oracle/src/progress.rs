@@ -13,6 +13,7 @@ use crate::image::Fault;
 use crate::load::{self, Load, MOST_FLOW_OR_HEAD};
 use crate::network::{self, STATUSES};
 use crate::project::{Project, Sort};
+use crate::second_clock;
 
 const NO_SUCH_PREMISE: Fault = 9;
 const STARTED: &str = "a run begins with a state";
@@ -27,6 +28,7 @@ pub struct Progress {
     solver: HydraulicSolver,
     premises: Vec<RuleCondition>,
     junctions: usize,
+    has_second_clock: bool,
     /// How often the clock moved. The reference keeps no such count.
     count: usize,
 }
@@ -43,6 +45,7 @@ impl Progress {
             solver: doorway::empty_solver(),
             premises: project.premises.iter().map(network::premise).collect(),
             junctions: project.junctions(),
+            has_second_clock: second_clock::serves(project),
             count: 0,
         }
     }
@@ -138,6 +141,11 @@ impl Progress {
         length
     }
 
+    /// The second clock's step: where it serves the project, "it answers and leaves what the driver's step does".
+    pub fn slow(&mut self) -> Result<usize, Fault> {
+        if self.has_second_clock { Ok(self.step()) } else { Err(second_clock::NOT_SERVED) }
+    }
+
     /// The whole state in words of 16 hexadecimal digits, a space before each.
     pub fn write_state(&self, out: &mut impl Write) -> io::Result<()> {
         let state = self.state();
@@ -158,7 +166,7 @@ impl Progress {
     }
 
     /// Stops the run where a state breaks what document 01 says holds along every list of calls from a start: there
-    /// only loads and premises can be refused.
+    /// only loads, premises and the second clock's steps can be refused.
     pub fn check_state(&self) {
         let state = self.state();
         let within = |numbers: &[f64], most: f64| numbers.iter().all(|number| number.abs() <= most);

@@ -53,6 +53,10 @@ fn call(progress: &mut Progress, input: &mut Input, out: &mut impl Write) -> io:
             Err(fault) => write!(out, "premise refused={fault}"),
         },
         7 => write!(out, "step {}", progress.step()),
+        8 => match progress.slow() {
+            Ok(length) => write!(out, "slow {length}"),
+            Err(fault) => write!(out, "slow refused={fault}"),
+        },
         _ => panic!("{BROKEN_LIST}"),
     }
 }

@@ -5,7 +5,7 @@ use mathlib.Core.Bool.{true}
 use mathlib.Core.List.{List}
 use borrow.Author.Tests.{not-true, not-false}
 use denote.Ref.{now}
-use Rattle.list_words.proofs.Codes.{code-1, code-2, code-3, code-4, code-5, code-6, code-7}
+use Rattle.list_words.proofs.Codes.{code-1, code-2, code-3, code-4, code-5, code-6, code-7, code-8}
 use Rattle.list_words.proofs.Lists.{load-whole}
 use Rattle.list_words.specs.Lists.{callOf, callOk}
 use Rattle.demand3.specs.Calls.{called, pressed, stepped, outcome}
@@ -105,7 +105,17 @@ stepped-requires c κs = search needs
 
 returns-8 : tie.Need-returns-8
 unfolding outcome
-returns-8 c = made (c .before .before .before .before .before .before .before .before .before .before .before .before .args .p) (now (c .before .before .before .before .before .before .before .before .before .before .before .before .args .words)) (c .before .before .before .before .before .before .before .before .before .before .before .before .args .s) (sym (c .before .before .before .before .before .before .before .before .before .before .call-ok .ensures) ∙ not-false (c .before .before .before .before .before .before .before .before .before .before .call-ok .result) (c .before .before .before .before .before .before .before .before .before .if1 .left)) (c .stepped .ensures ∙ (ap stepped (c .before .next-hydraulic-timestep .ensures) ∙ sym (ap (λ k. outcome (c .before .before .before .before .before .before .before .before .before .before .before .before .args .p) k (c .before .before .before .before .before .before .before .before .before .before .before .before .args .s)) (code-7 (now (c .before .before .before .before .before .before .before .before .before .before .before .before .args .words)) _ (c .before .before .before .before .before .before .before .before .word .ensures) (c .before .before .before .before .before .before .before .if2 .left) (c .before .before .before .before .before .before .if3 .left) (c .before .before .before .before .before .if4 .left) (c .before .before .before .before .if5 .left) (c .before .before .before .if6 .left) (c .before .before .if7 .left)))))
+returns-8 c = made (c .before .before .before .before .before .before .before .before .before .before .before .before .before .args .p) (now (c .before .before .before .before .before .before .before .before .before .before .before .before .before .args .words)) (c .before .before .before .before .before .before .before .before .before .before .before .before .before .args .s) (sym (c .before .before .before .before .before .before .before .before .before .before .before .call-ok .ensures) ∙ not-false (c .before .before .before .before .before .before .before .before .before .before .before .call-ok .result) (c .before .before .before .before .before .before .before .before .before .before .if1 .left)) (c .stepped .ensures ∙ (ap stepped (c .before .next-hydraulic-timestep .ensures) ∙ sym (ap (λ k. outcome (c .before .before .before .before .before .before .before .before .before .before .before .before .before .args .p) k (c .before .before .before .before .before .before .before .before .before .before .before .before .before .args .s)) (code-7 (now (c .before .before .before .before .before .before .before .before .before .before .before .before .before .args .words)) _ (c .before .before .before .before .before .before .before .before .before .word .ensures) (c .before .before .if8 .taken)))))
+
+step-by-seconds-requires : tie.Need-step-by-seconds-requires
+step-by-seconds-requires c κs = search needs
+
+stepped-requires-2 : tie.Need-stepped-requires-2
+stepped-requires-2 c κs = search needs
+
+returns-9 : tie.Need-returns-9
+unfolding outcome
+returns-9 c = made (c .before .before .before .before .before .before .before .before .before .before .before .before .before .args .p) (now (c .before .before .before .before .before .before .before .before .before .before .before .before .before .args .words)) (c .before .before .before .before .before .before .before .before .before .before .before .before .before .args .s) (sym (c .before .before .before .before .before .before .before .before .before .before .before .call-ok .ensures) ∙ not-false (c .before .before .before .before .before .before .before .before .before .before .before .call-ok .result) (c .before .before .before .before .before .before .before .before .before .before .if1 .left)) (c .stepped2 .ensures ∙ (ap stepped (c .before .step-by-seconds .ensures) ∙ sym (ap (λ k. outcome (c .before .before .before .before .before .before .before .before .before .before .before .before .before .args .p) k (c .before .before .before .before .before .before .before .before .before .before .before .before .before .args .s)) (code-8 (now (c .before .before .before .before .before .before .before .before .before .before .before .before .before .args .words)) _ (c .before .before .before .before .before .before .before .before .before .word .ensures) (c .before .before .before .before .before .before .before .before .if2 .left) (c .before .before .before .before .before .before .before .if3 .left) (c .before .before .before .before .before .before .if4 .left) (c .before .before .before .before .before .if5 .left) (c .before .before .before .before .if6 .left) (c .before .before .before .if7 .left) (c .before .before .if8 .left)))))
 
 pub first-call-spec : {M : Type 1} → statement M
 first-call-spec =
@@ -136,4 +146,7 @@ first-call-spec =
     returns-7
     next-hydraulic-timestep-requires
     stepped-requires
-    returns-8)
+    returns-8
+    step-by-seconds-requires
+    stepped-requires-2
+    returns-9)

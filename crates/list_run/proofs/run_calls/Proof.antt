@@ -14,16 +14,16 @@ use Rattle.list_run.proofs.run_calls.Statement.{statement}
 use Rattle.list_run.proofs.run_calls.Tie as tie
 
 abbrev Inv-loop : tie.InvT-loop
-Inv-loop p words n r₀ at₀ r at = Running p r₀ words at r
+Inv-loop p serves words n r₀ at₀ r at = Running p r₀ words at r
 
 abbrev μ-loop : tie.MeasureT-loop
-μ-loop p words n r₀ at₀ r at = length words - at
+μ-loop p serves words n r₀ at₀ r at = length words - at
 
 none-run-requires : tie.Need-none-run-requires Inv-loop μ-loop
 none-run-requires c κs = search needs
 
 loop-holds : tie.Need-loop-holds Inv-loop μ-loop
-loop-holds c = running (c .before .before .pre .0) (c .before .before .pre .1) (c .none-run .ensures)
+loop-holds c = running (c .before .before .pre .1 .0) (c .before .before .pre .1 .1) (c .none-run .ensures)
 
 mul-ws : tie.Need-mul-ws Inv-loop μ-loop
 mul-ws c = search needs
@@ -38,7 +38,14 @@ part-ws-end : tie.Need-part-ws-end Inv-loop μ-loop
 part-ws-end c = search needs
 
 counted-requires : tie.Need-counted-requires Inv-loop μ-loop
-counted-requires c κs = (c .before .before .loop .inv .fits .order, (omega (arith, c .before .before .loop .inv .fits .asks, c .before .loop-test .taken), c .before .before .loop .inv .fits .sum, c .before .before .loop .inv .fits .moving, call-whole (c .before .before .loop .inv) (c .before .loop-test .taken)))
+counted-requires c κs =
+    let g = c .before .before .loop .inv in (
+      c .before .before .before .before .before .pre .0,
+      (
+        g .fits .order,
+        (omega (arith, g .fits .asks, c .before .loop-test .taken), g .fits .sum, g .fits .moving, call-whole g (c .before .loop-test .taken)),
+      ),
+    )
 
 call-length-requires : tie.Need-call-length-requires Inv-loop μ-loop
 call-length-requires c κs = search needs

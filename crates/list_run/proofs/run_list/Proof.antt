@@ -10,6 +10,7 @@ use denote.Ref.{now}
 use Rattle.model.specs.Blank.{blankState}
 use Rattle.model.specs.declared.project.Project.{Project}
 use Rattle.tables.specs.Tables.{tablesOk}
+use Rattle.tables.proofs.Fits.{tables-fit}
 use Rattle.judge.specs.Judgement.{inOrder}
 use Rattle.state.specs.Start.{newWithInitialValues}
 use Rattle.calls.specs.Calls.{gives, start}
@@ -71,11 +72,25 @@ none-run-requires-2 c κs = search needs
 returns-2 : tie.Need-returns-2
 returns-2 c = refused-list (c .before .before .before .before .before .before .before .args .p) (now (c .before .before .before .before .before .before .before .args .words)) _ (sym (ap (λ (k : Called). k .number) (c .before .before .before .before .before .new-with-initial-values .ensures)) ∙ c .before .before .before .if1 .left) (sym (c .before .before .list-ok .ensures) ∙ not-true (c .before .before .list-ok .result) (c .before .if2 .taken)) (c .none-run2 .ensures ∙ ap (λ (k : Called). noneRun 18 (k .state)) (c .before .before .before .before .before .new-with-initial-values .ensures))
 
+second-applies-requires : tie.Need-second-applies-requires
+second-applies-requires c κs = tables-fit (c .before .before .before .before .before .before .args .p) (start-tables (c .before .before .before .before .before .before .args .p) (sym (ap (λ (k : Called). k .number) (c .before .before .before .before .new-with-initial-values .ensures)) ∙ c .before .before .if1 .left))
+
 run-calls-requires : tie.Need-run-calls-requires
-run-calls-requires c κs = (ap (λ (k : Called). inOrder (c .before .before .before .before .before .before .args .p) (k .state)) (c .before .before .before .before .new-with-initial-values .ensures) ∙ start-in-order (c .before .before .before .before .before .before .args .p) (sym (ap (λ (k : Called). k .number) (c .before .before .before .before .new-with-initial-values .ensures)) ∙ c .before .before .if1 .left), sym (c .before .list-ok .ensures) ∙ not-false (c .before .list-ok .result) (c .if2 .left))
+run-calls-requires c κs =
+    let p = c .before .before .before .before .before .before .before .args .p in (
+      c .second-applies .ensures,
+      (
+        ap (λ (k : Called). inOrder p (k .state)) (c .before .before .before .before .before .new-with-initial-values .ensures) ∙ start-in-order p (sym (ap (λ (k : Called). k .number) (c .before .before .before .before .before .new-with-initial-values .ensures)) ∙ c .before .before .before .if1 .left),
+        sym (c .before .before .list-ok .ensures) ∙ not-false (c .before .before .list-ok .result) (c .before .if2 .left),
+      ),
+    )
 
 returns-3 : tie.Need-returns-3
-returns-3 c = ran-list (c .before .before .before .before .before .before .before .args .p) (now (c .before .before .before .before .before .before .before .args .words)) _ (sym (ap (λ (k : Called). k .number) (c .before .before .before .before .before .new-with-initial-values .ensures)) ∙ c .before .before .before .if1 .left) (sym (c .before .before .list-ok .ensures) ∙ not-false (c .before .before .list-ok .result) (c .before .if2 .left)) (c .run-calls .ensures ∙ ap (λ (k : Called). countedAll (c .before .before .before .before .before .before .before .args .p) (callsOf 0 (now (c .before .before .before .before .before .before .before .args .words))) (noneRun 0 (k .state))) (c .before .before .before .before .before .new-with-initial-values .ensures))
+returns-3 c =
+    let a = c .before .before .before .before .before .before .before .before .args in
+    ran-list (a .p) (now (a .words)) _ (sym (ap (λ (k : Called). k .number) (c .before .before .before .before .before .before .new-with-initial-values .ensures)) ∙ c .before .before .before .before .if1 .left)
+    (sym (c .before .before .before .list-ok .ensures) ∙ not-false (c .before .before .before .list-ok .result) (c .before .before .if2 .left))
+    (c .run-calls .ensures ∙ ap (λ (k : Called). countedAll (a .p) (callsOf 0 (now (a .words))) (noneRun 0 (k .state))) (c .before .before .before .before .before .before .new-with-initial-values .ensures))
 
 pub run-list-spec : {M : Type 1} → statement M
 run-list-spec =
@@ -87,5 +102,6 @@ run-list-spec =
     list-ok-requires
     none-run-requires-2
     returns-2
+    second-applies-requires
     run-calls-requires
     returns-3)

@@ -1,7 +1,7 @@
 -- `replay_text::answers::put_given` meets its contract. Assumes nothing.
 use native.Mathlib.Omega.{arith}
 use Rattle.replay_text.specs.Lines.{givenText}
-use Rattle.replay_text.proofs.Pieces.{fits, given-7, given-6, given-5, given-ok, given-short}
+use Rattle.replay_text.proofs.Pieces.{fits, given-length, given-6, given-5, given-ok, given-short}
 use borrow.Author.Needs.{needs}
 use Rattle.replay_text.proofs.answers.put_given.Statement.{statement}
 use Rattle.replay_text.proofs.answers.put_given.Tie as tie
@@ -13,7 +13,7 @@ same-length : tie.Need-same-length
 same-length c = search needs
 
 returns : tie.Need-returns
-returns c = fits (c .before .before .before .before .before .before .args .out .now) (c .before .before .before .before .before .before .args .at) (givenText (c .before .before .before .before .before .before .args .code) (c .before .before .before .before .before .before .args .seconds) (c .before .before .before .before .before .before .args .truth)) (given-7 (c .before .before .before .before .before .before .args .code) (c .before .before .before .before .before .before .args .seconds) (c .before .before .before .before .before .before .args .truth) (c .before .before .before .before .if1 .taken)) (omega (arith, c .before .before .before .before .before .before .pre, given-short (c .before .before .before .before .before .before .args .code) (c .before .before .before .before .before .before .args .seconds) (c .before .before .before .before .before .before .args .truth))) (c .before .before .put-decimal .ensures .0) (c .before .before .put-decimal .ensures .1)
+returns c = fits (c .before .before .before .before .before .before .args .out .now) (c .before .before .before .before .before .before .args .at) (givenText (c .before .before .before .before .before .before .args .code) (c .before .before .before .before .before .before .args .seconds) (c .before .before .before .before .before .before .args .truth)) (given-length (c .before .before .before .before .before .before .args .code) (c .before .before .before .before .before .before .args .seconds) (c .before .before .before .before .before .before .args .truth) (c .before .before .before .before .if1 .taken)) (omega (arith, c .before .before .before .before .before .before .pre, given-short (c .before .before .before .before .before .before .args .code) (c .before .before .before .before .before .before .args .seconds) (c .before .before .before .before .before .before .args .truth))) (c .before .before .put-decimal .ensures .0) (c .before .before .put-decimal .ensures .1)
 
 put-truth-requires : tie.Need-put-truth-requires
 put-truth-requires c κs = search needs

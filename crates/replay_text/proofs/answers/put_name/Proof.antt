@@ -1,7 +1,7 @@
 -- `replay_text::answers::put_name` meets its contract: by the code that each test names, and at last by all the tests. Assumes nothing.
 use native.Mathlib.Omega.{arith}
 use Rattle.replay_text.specs.Lines.{nameText}
-use Rattle.replay_text.proofs.Pieces.{fits, name-1, name-2, name-3, name-4, name-5, name-6, name-7, name-short}
+use Rattle.replay_text.proofs.Pieces.{fits, name-1, name-2, name-3, name-4, name-5, name-6, name-7, name-8, name-short}
 use borrow.Author.Needs.{needs}
 use Rattle.replay_text.proofs.answers.put_name.Statement.{statement}
 use Rattle.replay_text.proofs.answers.put_name.Tie as tie
@@ -88,7 +88,19 @@ same-length-7 : tie.Need-same-length-7
 same-length-7 c = search needs
 
 returns-7 : tie.Need-returns-7
-returns-7 c = fits (c .before .before .before .before .before .before .before .before .before .before .before .before .args .out .now) (c .before .before .before .before .before .before .before .before .before .before .before .before .args .at) (nameText (c .before .before .before .before .before .before .before .before .before .before .before .before .args .code)) (name-7 (c .before .before .before .before .before .before .before .before .before .before .before .before .args .code) (c .before .before .before .before .before .before .before .before .before .before .if1 .left) (c .before .before .before .before .before .before .before .before .before .if2 .left) (c .before .before .before .before .before .before .before .before .if3 .left) (c .before .before .before .before .before .before .before .if4 .left) (c .before .before .before .before .before .before .if5 .left) (c .before .before .before .before .before .if6 .left)) (omega (arith, c .before .before .before .before .before .before .before .before .before .before .before .before .pre, name-short (c .before .before .before .before .before .before .before .before .before .before .before .before .args .code))) (c .before .before .put-text7 .ensures .0) (c .before .before .put-text7 .ensures .1)
+returns-7 c = fits (c .before .before .before .before .before .before .before .before .before .before .before .before .before .args .out .now) (c .before .before .before .before .before .before .before .before .before .before .before .before .before .args .at) (nameText (c .before .before .before .before .before .before .before .before .before .before .before .before .before .args .code)) (name-7 (c .before .before .before .before .before .before .before .before .before .before .before .before .before .args .code) (c .before .before .before .before .before .if7 .taken)) (omega (arith, c .before .before .before .before .before .before .before .before .before .before .before .before .before .pre, name-short (c .before .before .before .before .before .before .before .before .before .before .before .before .before .args .code))) (c .before .before .put-text7 .ensures .0) (c .before .before .put-text7 .ensures .1)
+
+slice-aggregate-put-text-8 : tie.Need-slice-aggregate-put-text-8
+slice-aggregate-put-text-8 c = search needs
+
+put-text-requires-8 : tie.Need-put-text-requires-8
+put-text-requires-8 c κs = search needs
+
+same-length-8 : tie.Need-same-length-8
+same-length-8 c = search needs
+
+returns-8 : tie.Need-returns-8
+returns-8 c = fits (c .before .before .before .before .before .before .before .before .before .before .before .before .before .args .out .now) (c .before .before .before .before .before .before .before .before .before .before .before .before .before .args .at) (nameText (c .before .before .before .before .before .before .before .before .before .before .before .before .before .args .code)) (name-8 (c .before .before .before .before .before .before .before .before .before .before .before .before .before .args .code) (c .before .before .before .before .before .before .before .before .before .before .before .if1 .left) (c .before .before .before .before .before .before .before .before .before .before .if2 .left) (c .before .before .before .before .before .before .before .before .before .if3 .left) (c .before .before .before .before .before .before .before .before .if4 .left) (c .before .before .before .before .before .before .before .if5 .left) (c .before .before .before .before .before .before .if6 .left) (c .before .before .before .before .before .if7 .left)) (omega (arith, c .before .before .before .before .before .before .before .before .before .before .before .before .before .pre, name-short (c .before .before .before .before .before .before .before .before .before .before .before .before .before .args .code))) (c .before .before .put-text8 .ensures .0) (c .before .before .put-text8 .ensures .1)
 
 pub put-name-spec : {M : Type 1} → statement M
 put-name-spec =
@@ -121,4 +133,8 @@ put-name-spec =
     slice-aggregate-put-text-7
     put-text-requires-7
     same-length-7
-    returns-7)
+    returns-7
+    slice-aggregate-put-text-8
+    put-text-requires-8
+    same-length-8
+    returns-8)

@@ -1,0 +1,2 @@
+pub mod SecondClock
+pub mod Awaited

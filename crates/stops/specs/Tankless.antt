@@ -1,0 +1,27 @@
+-- Needs no belief: what the theorem of the walk (proofs/Walk.antt) asks of the times and of a moment, and which the prover sees met where the second
+-- clock serves (second_clock/proofs).
+use Prim.Native.Nat.{ℕ, _≤_, _<_}
+use mathlib.Core.Path.{_≡_}
+use mathlib.Core.List.{List}
+use mathlib.Core.Logic.{_⊎_}
+use Rattle.number.specs.Constants.{MAX}
+use Rattle.clock.specs.Lawful.{Each}
+use Rattle.clock.specs.Steps.{DAY}
+use Rattle.clock.specs.Triggers.{Trigger, atTime, atClock, atLevel, untimed, Moment}
+use Rattle.clock.specs.declared.length.Times.{Times}
+
+-- "without tanks": neither they nor a level control give a time
+abbrev pub NoLevelTime : {L : Type 0} → Moment L → Trigger L → Type 0
+NoLevelTime m (atTime s) = Unit {0}
+NoLevelTime m (atClock s) = Unit {0}
+NoLevelTime m (atLevel l) = m .level l ≡ MAX
+NoLevelTime m untimed = Unit {0}
+
+pub record NoTankTime {L : Type 0} (ts : List (Trigger L)) (m : Moment L) : Type 0 where
+  pub tank : m .tank ≡ MAX
+  pub level : Each (NoLevelTime m) ts
+
+-- "with at least one of its report, pattern and hydraulic timesteps at most a day"; the hydraulic one is that in force, so it is not 0
+pub record Daily (o : Times) : Type 0 where
+  pub hydraulic : 0 < o .hydraulic
+  pub one : (o .report ≤ DAY) ⊎ (o .pattern ≤ DAY) ⊎ (o .hydraulic ≤ DAY)
