@@ -1,5 +1,8 @@
 //! What an image says, and the numbers of what is wrong with it.
 
+/// Seconds.
+pub const DAY: u32 = 86_400;
+
 /// A number of document 01.
 #[derive(Clone, Copy)]
 pub struct Fault(pub u32);

@@ -1,11 +1,10 @@
 //! A run's state, and the parts of a step that change it.
 
 use crate::network::{Control, NEVER, Network, Trigger, time_to_reach};
-use crate::project::{Action, Status};
+use crate::project::{Action, DAY, Status};
 
 /// Feet by which a level may miss a control's target.
 const LEVEL_TOLERANCE: f64 = 0.0001;
-const DAY: u32 = 86_400;
 
 pub struct State {
     pub instant: u32,

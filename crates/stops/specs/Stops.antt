@@ -1,4 +1,4 @@
--- Document 02, R-10: the instants at which the options or controls call for a stop, whatever the run has been.
+-- Document 02, R-10: the instants at which the options or controls call for a stop, wherever a walk begins.
 use Prim.Native.Nat.{ℕ, _%_}
 use mathlib.Core.Bool.{Bool, false, _||_}
 use mathlib.Core.List.{List, [], _∷_}
