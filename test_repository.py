@@ -23,6 +23,7 @@ import driver_cases  # noqa: E402
 import image_text  # noqa: E402
 import images  # noqa: E402
 import planes  # noqa: E402
+import vectors  # noqa: E402
 import works  # noqa: E402
 
 
@@ -79,6 +80,15 @@ class StoredCases(unittest.TestCase):
         for image in (ROOT / "stock").glob("*.image"):
             name = next(name for name, given in made.items() if given == image.read_bytes())
             self.assertIn(f"{name}\n{image.with_suffix('.listing').read_text()}", stdout)
+
+    def test_replay_cases_of_the_stock(self):
+        """The last inputs are works walked by the second clock; its answers are their listings' lengths, or 14."""
+        made, folder = vectors.stock(), CRATES / "replay_cases"
+        stored = sorted((folder / "data").iterdir())[-len(made) :]
+        self.assertEqual([path.read_bytes() for path in stored], made)
+        answers = (folder / "stdout").read_text().partition(f"{stored[0].name}\n")[2]
+        answered = re.split(r"^case\d+\n", answers.rpartition(f"{int(stored[-1].name[4:]) + 1} cases\n")[0], flags=re.M)
+        vectors.check_stock([answer.encode() for answer in answered])
 
 
 class Sources(unittest.TestCase):
