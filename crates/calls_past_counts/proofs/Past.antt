@@ -1,5 +1,5 @@
 -- No call changes an entry past the counts: each turn of its loops writes below them. Assumes nothing.
-use Prim.Native.Nat.{ℕ, _+_, _≤_, _<_}
+use Prim.Native.Nat.{ℕ, _+_, _<_}
 use mathlib.Core.Path.{_≡_, refl, _∙_}
 use mathlib.Core.Bool.{Bool, true, false, cond}
 use mathlib.Core.List.{List}
@@ -27,7 +27,7 @@ use Rattle.solver.specs.Closing.{closeLinks, updateTankLinks}
 use Rattle.solver.specs.Pressure.{applyPressureControls}
 use Rattle.solver.specs.declared.pressure.Pressed.{Pressed}
 use Rattle.simulation.specs.Steps.{lengthOf, movedBy, nextHydraulicTimestep}
-use Rattle.calls.specs.Calls.{gives, start, judged, patterns, controls, load, tankLinks, pressure, step}
+use Rattle.calls.specs.Calls.{gives, judged, patterns, controls, load, tankLinks, pressure, step}
 use Rattle.calls.specs.declared.Called.{Called}
 use Rattle.calls.specs.declared.PressureCalled.{PressureCalled}
 use Rattle.calls.specs.declared.StepCalled.{StepCalled}

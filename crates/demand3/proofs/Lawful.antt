@@ -7,24 +7,23 @@ use mathlib.Core.List.{List}
 use Prim.Native.Nat.{ℕ, _+_}
 use native.Mathlib.Omega.{arith}
 use lib.Dec.{eqb, ltb}
-use borrow.Author.Tests.{eq-eqb, ne-eqb, lt-ltb}
+use borrow.Author.Tests.{lt-ltb}
 use Rattle.clock.proofs.Tests.{eqb-ind}
-use Rattle.clock.specs.Lawful.{Lawful, Quiet, Start, Stepping}
+use Rattle.clock.specs.Lawful.{Lawful, Start, Stepping}
 use Rattle.clock.specs.Machine.{bit}
 use Rattle.clock.specs.Steps.{advanced}
 use Rattle.clock.specs.declared.hand.Clock.{Clock}
 use Rattle.model.specs.Blank.{blankState}
 use Rattle.model.specs.declared.project.Project.{Project}
 use Rattle.model.specs.declared.state.State.{State}
-use Rattle.model.proofs.Loops.{both-left}
 use Rattle.tables.specs.Tables.{tablesOk}
 use Rattle.tables.proofs.Fits.{tables-fit}
-use Rattle.judge.specs.Judgement.{inOrder, stateOk}
+use Rattle.judge.specs.Judgement.{inOrder}
 use Rattle.load.specs.Loads.{shapeOk, valuesOk, valueCount, loadFault}
 use Rattle.state.specs.Tanks.{updateTanks}
 use Rattle.simulation.specs.Steps.{timesOf, triggersOf, lengthOf, movedBy, nextHydraulicTimestep}
 use Rattle.calls.specs.Calls as calls
-use Rattle.calls.specs.Calls.{gives, start, premiseNumber}
+use Rattle.calls.specs.Calls.{start, premiseNumber}
 use Rattle.calls.specs.declared.PremiseAnswer.{PremiseAnswer}
 use Rattle.calls.specs.declared.PremiseAnswer.the-variants.{Truth, Refused}
 use Rattle.calls.specs.declared.StepCalled.{StepCalled}

@@ -4,13 +4,11 @@ use mathlib.Core.Bool.{Bool, true, false, cond, true≢false}
 use mathlib.Core.List.{List}
 use Prim.Native.Nat.{ℕ}
 use lib.Dec.{eqb}
-use Rattle.clock.specs.declared.hand.Clock.{Clock}
 use Rattle.model.specs.Blank.{blankState}
 use Rattle.model.specs.declared.project.Project.{Project}
 use Rattle.model.specs.declared.state.State.{State}
 use Rattle.model.proofs.Loops.{kept}
 use Rattle.judge.specs.Judgement.{inOrder}
-use Rattle.tables.specs.Tables.{tablesOk}
 use Rattle.state.specs.Start.{startNodes, startLinks, newWithInitialValues}
 use Rattle.state.specs.Patterns.{applyPatterns}
 use Rattle.state.specs.Controls.{applyControls}

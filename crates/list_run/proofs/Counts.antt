@@ -8,17 +8,15 @@ use native.Mathlib.Omega.{arith}
 use lib.Dec.{eqb, ltb}
 use borrow.Author.Tests.{eq-eqb, ne-eqb}
 use lib.ListN.{length, drop}
-use Rattle.clock.proofs.Tests.{eqb-ind, ltb-ind}
+use Rattle.clock.proofs.Tests.{ltb-ind}
 use Rattle.clock.specs.Machine.{bit, final, asked, answered, timesMoved}
 use Rattle.model.specs.declared.project.Project.{Project}
 use Rattle.model.specs.declared.state.State.{State}
 use Rattle.model.proofs.Loops.{both-left, both-right}
-use Rattle.tables.specs.Fit.{TablesFit}
 use Rattle.tables.specs.Tables.{tablesOk}
 use Rattle.tables.proofs.Fits.{tables-fit}
 use Rattle.judge.specs.Judgement.{inOrder}
 use Rattle.calls_sound.proofs.Theorem.{tables-of, state-of}
-use Rattle.simulation.specs.Steps.{timesOf, triggersOf}
 use Rattle.calls.specs.Calls as calls
 use Rattle.calls.specs.Calls.{start}
 use Rattle.calls.specs.declared.PremiseAnswer.{PremiseAnswer}
@@ -35,7 +33,7 @@ use Rattle.demand3.specs.declared.Outcome.{Outcome}
 use Rattle.demand3.proofs.Lawful.{lawful}
 use Rattle.demand3.proofs.Quiet.{quiet}
 use Rattle.demand3.proofs.Theorem.{demand3-of-tables}
-use Rattle.list_run.specs.Runs.{noneRun, counted, countedAll, runList, Answers}
+use Rattle.list_run.specs.Runs.{noneRun, counted, countedAll, Answers}
 use Rattle.list_run.specs.declared.ListRun.{ListRun}
 
 -- ---- one call

@@ -8,10 +8,9 @@ use lib.Dec.{eqb, leb}
 use borrow.Author.Tests.{leb-true}
 use lib.ListN.{length, drop, drop-of-length-le}
 use lib.Seq.{drop-drop}
-use Rattle.model.proofs.Loops.{both-left, both-right}
+use Rattle.model.proofs.Loops.{both-right}
 use Rattle.image_entry.specs.Words.{word}
 use Rattle.image.proofs.Turns.{rest, rest-is, rest-length}
-use Rattle.list_words.specs.Calls.{Call}
 use Rattle.list_words.specs.Lists.{callOf, callLength, callOk, callsOf, listOk}
 
 -- ---- one call

@@ -1,17 +1,14 @@
 -- "from any accepted state it answers and leaves what the driver's step does": where the second clock applies, its call is the step's. What carries it:
 -- the walk's seconds are the step's length, and without tanks a step moves nothing but the clock. Assumes nothing.
-use mathlib.Core.Path.{_≡_, refl, sym, ap, _∙_}
+use mathlib.Core.Path.{_≡_, refl}
 use mathlib.Core.Bool.{Bool, true, false, cond, not, _&&_, _||_}
 use mathlib.Core.Logic.{_⊎_, inl, inr}
 use Prim.Native.Nat.{ℕ, _+_, _≤_}
-use native.Mathlib.Omega.{arith}
-use lib.Dec.{eqb, leb}
+use lib.Dec.{leb}
 use borrow.Author.Tests.{leb-true, not-true}
 use Rattle.clock.proofs.Tests.{eqb-ind}
 use Rattle.clock.specs.Steps.{DAY, advanced}
-use Rattle.clock.specs.declared.length.Times.{Times}
 use Rattle.stops.specs.Tankless.{Daily}
-use Rattle.stops.specs.Walk.{walk}
 use Rattle.stops.proofs.Walk.{walk-is}
 use Rattle.model.specs.declared.project.Project.{Project}
 use Rattle.model.specs.declared.state.State.{State}
@@ -25,7 +22,6 @@ use Rattle.simulation.specs.Steps.{noTanks, timesOf, triggersOf, momentOf, leng
 use Rattle.simulation.proofs.Accepted.{accepted-times}
 use Rattle.simulation.proofs.Hydraulic.{in-force-positive}
 use Rattle.calls.specs.Calls.{step}
-use Rattle.calls.specs.declared.StepCalled.{StepCalled}
 use Rattle.calls_sound.proofs.Step.{step-within, step-moves}
 use Rattle.calls_sound.proofs.Theorem.{tables-of, state-of}
 use Rattle.second_clock.specs.SecondClock.{daily, secondApplies, secondLength, movedOn, second}

@@ -1,11 +1,11 @@
 -- The walk, second by second. What the controls of a table wait for, asked one after the other, are the triggers of the definition. Assumes nothing.
-use mathlib.Core.Path.{_≡_, refl, sym, ap, _∙_, subst}
+use mathlib.Core.Path.{_≡_, refl, sym, ap, _∙_}
 use mathlib.Core.Bool.{Bool, true, false, cond, _||_}
 use mathlib.Core.List.{List, [], _∷_, _++_}
 use Prim.Native.Nat.{ℕ, zero, suc, _+_, _-_, _^_, _≤_, _<_}
 use native.Mathlib.Omega.{arith}
 use lib.Dec.{eqb}
-use lib.ListN.{getD, length, replicate}
+use lib.ListN.{getD, replicate}
 use borrow.Author.Tests.{ne-eqb, lt-ltb}
 use Rattle.clock.specs.Steps.{clockTime}
 use Rattle.clock.specs.Triggers.{Trigger, atTime, atClock, atLevel, untimed}
@@ -24,7 +24,7 @@ use Rattle.judge.specs.Judgement.{inOrder}
 use Rattle.calls_sound.proofs.Theorem.{tables-of, state-of}
 use Rattle.simulation.specs.Steps.{Level, listed, timesOf, triggersOf}
 use Rattle.second_clock.specs.declared.walk.Awaited.{Awaited}
-use Rattle.second_clock.specs.Awaited.{NEVER, timeOf, clockOf, triggerIn, triggersIn, noted, notes, awaitedBy, orCalls, anyCalls, stopsThen, stopsBy, TimesFit}
+use Rattle.second_clock.specs.Awaited.{NEVER, timeOf, clockOf, triggerIn, triggersIn, notes, awaitedBy, anyCalls, stopsThen, stopsBy, TimesFit}
 
 -- ---- what a control waits for
 or-false : (b : Bool) → (b || false) ≡ b

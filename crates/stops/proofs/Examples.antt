@@ -2,7 +2,6 @@
 use mathlib.Core.Path.{_≡_, refl}
 use mathlib.Core.Bool.{false}
 use mathlib.Core.List.{List, [], _∷_, map}
-use Prim.Native.Nat.{ℕ}
 use Rattle.clock.specs.Triggers.{Trigger, atTime, atClock}
 use Rattle.clock.specs.declared.length.Times.{Times}
 use Rattle.stops.specs.Stops.{calledAt, stopsAt}

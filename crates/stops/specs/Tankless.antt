@@ -1,6 +1,6 @@
 -- Needs no belief: what the theorem of the walk (proofs/Walk.antt) asks of the times and of a moment, and which the prover sees met where the second
 -- clock serves (second_clock/proofs).
-use Prim.Native.Nat.{ℕ, _≤_, _<_}
+use Prim.Native.Nat.{_≤_, _<_}
 use mathlib.Core.Path.{_≡_}
 use mathlib.Core.List.{List}
 use mathlib.Core.Logic.{_⊎_}
