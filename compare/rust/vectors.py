@@ -10,8 +10,8 @@ coverage.py names what there is. A list of calls is cut behind the last call tha
 wrong, then the cases so kept, then those of the narrow kinds by which faults.py finds what no other kind shows, and at
 the end the second clock's, chosen in the same way among its own and by what coverage.py counts of it, and works of the
 stock walked by it, which are held to their listings. data/case000, data/case001, .. are the inputs; stdout has for each
-a line with its name and then the answer, and ends with the number of cases. Where something is not reached it is named, and the end is code 1; what coverage.py
-counts of `driver` is not asked for.
+a line with its name and then the answer, and ends with the number of cases. Where something is not reached it is named,
+and the end is code 1; what coverage.py counts of `driver` is not asked for.
 """
 
 import argparse
