@@ -56,7 +56,7 @@ some-word : (words : List ℕ) → 0 < word words 0 → 1 ≤ length words
 some-word [] l = absurd (omega arith)
 some-word (w ∷ ws) l = omega arith
 
-past-four : (code : ℕ) → 1 ≤ code → (code ≡ 1 → ⊥) → (code ≡ 2 → ⊥) → (code ≡ 3 → ⊥) → (code ≡ 4 → ⊥) → 5 ≤ code
+pub past-four : (code : ℕ) → 1 ≤ code → (code ≡ 1 → ⊥) → (code ≡ 2 → ⊥) → (code ≡ 3 → ⊥) → (code ≡ 4 → ⊥) → 5 ≤ code
 past-four code l a b c d = omega arith
 
 past-eight : (code : ℕ) → 5 ≤ code → (code ≡ 5 → ⊥) → (code ≡ 6 → ⊥) → (code ≡ 7 → ⊥) → (code ≡ 8 → ⊥) → 8 < code
