@@ -23,6 +23,8 @@ import driver_cases  # noqa: E402
 import image_text  # noqa: E402
 import images  # noqa: E402
 import planes  # noqa: E402
+import stops_asked  # noqa: E402
+import timetable_cases  # noqa: E402
 import vectors  # noqa: E402
 import works  # noqa: E402
 
@@ -81,6 +83,25 @@ class StoredCases(unittest.TestCase):
             name = next(name for name, given in made.items() if given == image.read_bytes())
             self.assertIn(f"{name}\n{image.with_suffix('.listing').read_text()}", stdout)
 
+    def test_timetable_cases(self):
+        """The inputs; the answers are the Rust's, and document 02's rules give the same in Python."""
+        made = {f"case{number:03}": given for number, given in enumerate(timetable_cases.inputs())}
+        self.assertEqual(files(CRATES / "timetable_cases" / "data"), made)
+        answers = zip(made, timetable_cases.right_answers(), strict=True)
+        expected = "".join(f"{name}\n{answer}" for name, answer in answers) + f"{len(made)} cases\n"
+        self.assertEqual((CRATES / "timetable_cases" / "stdout").read_text(), expected)
+
+    def test_timetable(self):
+        """The works coldash, which stops where its listing's steps end."""
+        self.assertEqual((CRATES / "timetable" / "stdin").read_bytes(), (ROOT / "stock" / "coldash.image").read_bytes())
+        expected = timetable_cases.answer_of_stock(ROOT / "stock" / "coldash.image")
+        self.assertEqual((CRATES / "timetable" / "stdout").read_text(), expected)
+
+    def test_stops_asked(self):
+        given, expected = stops_asked.made()
+        self.assertEqual((CRATES / "stops_asked" / "stdin").read_bytes(), given)
+        self.assertEqual((CRATES / "stops_asked" / "stdout").read_text(), expected)
+
     def test_replay_cases_of_the_stock(self):
         """The last inputs are works walked by the second clock; its answers are their listings' lengths, or 14."""
         made, folder = vectors.stock(), CRATES / "replay_cases"
@@ -106,7 +127,8 @@ class Sources(unittest.TestCase):
         code = re.sub(r"^ghost .*|//.*", "", "\n".join(sources), flags=re.M)
         named = {name for name in re.findall(r"^use ([\w:*]+);", code, re.M) if not name.startswith("crate::")}
         types = {"calls::StepCalled", "clock::Clock", "clock::Times", "model::*"}
-        self.assertEqual(named - types, {"judge::in_order", "simulation::no_tanks", "simulation::times_of"})
+        reading = {"awaited::awaited_by", "judge::in_order", "simulation::no_tanks", "simulation::times_of"}
+        self.assertEqual(named - types, reading)
         # Nothing else by its path, and no method: those of Clock and Times are the driver's arithmetic.
         self.assertEqual(re.findall(r"\b[a-z_]+::[a-z_]+\(", code), [])
         self.assertEqual(re.findall(r"\.\w+\(", code), [])

@@ -4,8 +4,8 @@
   handed_in.py --out FOLDER    writes FOLDER/stdin and FOLDER/stdout
 
 The project is the good image of images.py. A change that breaks number 10 has every call give 10 (the start too where it is the
-tables that break); any other has them give 0, but 7 for the load, which has one word, 9 for premise 0 where there is none, and 14 for
-the second clock, since the project has a tank.
+tables that break); any other has them give 0, but 7 for the load, which has one word, 9 for premise 0 where there is none, 14 for
+the second clock and `none` for the stops beforehand, since the project has a tank. The stops go by the tables alone.
 """
 import argparse
 import math
@@ -48,11 +48,11 @@ ALL_PREMISES = range(3)
 
 
 def good(premise=0):
-    return [0, 0, 0, 7, 0, 0, premise, 0, 14]
+    return [0, 0, 0, 7, 0, 0, premise, 0, 14, "none"]
 
 
-BROKEN_STATE = [0] + [10] * 8
-BROKEN_TABLES = [10] * 9
+BROKEN_STATE = [0] + [10] * 8 + ["none"]
+BROKEN_TABLES = [10] * 10
 
 
 def tables(within):

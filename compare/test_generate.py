@@ -1,4 +1,4 @@
-"""Checks of the generated cases' text, and of the second clock's walk: python3 -m unittest discover -s compare"""
+"""Checks of the generated cases' text, of walks and of stops: python3 -m unittest discover -s compare"""
 import pathlib
 import struct
 import subprocess
@@ -8,8 +8,9 @@ import unittest
 RUST = pathlib.Path(__file__).resolve().parent / "rust"
 sys.path.insert(0, str(RUST))
 import generate  # noqa: E402
-from image import DAY, LONGEST_TIME, SKIP, Options, Project, Tank  # noqa: E402
-from steps import Levels, causes  # noqa: E402
+from image import DAY, LONGEST_TIME, SKIP, Image, Options, Project, Tank  # noqa: E402
+from steps import Levels, advance, causes, starting_levels  # noqa: E402
+from stops import stops, unforeseen  # noqa: E402
 from walk import refusals, walk  # noqa: E402
 
 sys.path.insert(0, str(RUST.parent.parent / "tools"))
@@ -81,6 +82,36 @@ class SecondClock(unittest.TestCase):
             (["tank"], Project(Options(flags=SKIP), nodes=[Tank()])),
         ):
             self.assertEqual(refusals(project), reasons, project)
+
+
+class Stops(unittest.TestCase):
+    """Document 02, R-14, in Python alone: coverage.py holds the Rust's instants to the same set."""
+
+    def test_a_run_by_steps_visits_them_and_no_others(self):
+        cases = [case for case in map(generate.stops_case, range(1, 121)) if not isinstance(case, Image)]
+        projects = [case.project for case in cases if not unforeseen(case.project)]
+        self.assertGreater(len(projects), 50)
+        for project in projects:
+            levels, visited = starting_levels(project), []
+            while levels.instant < project.options.duration:
+                advance(project, levels)
+                visited.append(levels.instant)
+            self.assertEqual(visited, list(stops(project)), project)
+
+    def test_which_works_are_not_foreseen_and_why(self):
+        above = DAY + 1
+        for reasons, project in (
+            ([], Project(Options(hydraulic=600, report=600, pattern=900))),
+            ([], Project(Options(hydraulic=600, report=900, pattern=600))),
+            ([], Project(Options(hydraulic=0, report=3600, pattern=LONGEST_TIME))),
+            ([], Project(Options(hydraulic=above, report=above, pattern=DAY))),
+            (["hydraulic"], Project(Options(hydraulic=599, report=600, pattern=900))),
+            (["hydraulic"], Project(Options(hydraulic=0, report=3601, pattern=3601))),
+            (["day"], Project(Options(hydraulic=above, report=above, pattern=above))),
+            (["fast path"], Project(Options(flags=SKIP))),
+            (["tank"], Project(Options(flags=SKIP), nodes=[Tank()])),
+        ):
+            self.assertEqual(unforeseen(project), reasons, project)
 
 
 if __name__ == "__main__":

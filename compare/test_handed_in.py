@@ -13,6 +13,8 @@ NAMES = list(images.GOOD)
 FIRST = ("reservoir", "pipe", "high_pressure", "number_premise")
 NODES, LINKS, CONTROLS, PREMISES = (NAMES.index(name) for name in FIRST)
 
+# The stops beforehand do not go by the state.
+OF_THE_STATE = range(handed_in.INSTANT, handed_in.SETTING + 1)
 # Flags have no wrong value in the tables.
 FLAGS = {handed_in.SKIP, handed_in.PDA, handed_in.OVERFLOW, handed_in.DISABLED}
 INDICES = {handed_in.START, handed_in.END, handed_in.CONTROL_NODE, handed_in.CONTROL_LINK}
@@ -119,10 +121,11 @@ class Changes(unittest.TestCase):
     def test_every_word_is_accepted_and_refused(self):
         outcomes = collections.defaultdict(set)
         for what, _, _, expected in judged_groups():
-            outcomes[what].add(tuple(expected[-2:]))  # the step's number by either clock
+            outcomes[what].add(tuple(expected[-3:]))  # the step by either clock, the stops beforehand
         self.assertEqual(sorted(outcomes), list(range(handed_in.PREMISE_TIME + 1)))
         for what, numbers in outcomes.items():
-            self.assertEqual(numbers, {(0, 14)} if what in FLAGS else {(0, 14), (10, 10)}, what)
+            refused = set() if what in FLAGS else {(10, 10, "none")} if what in OF_THE_STATE else {(10, 10, 10)}
+            self.assertEqual(numbers, {(0, 14, "none")} | refused, what)
 
     def test_the_decoder_refuses_an_image_with_the_same_word(self):
         """ "tables break 4 to 6": what is wrong in an image is wrong in the tables."""

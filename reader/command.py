@@ -9,11 +9,11 @@ from dataclasses import dataclass
 
 import image_decode
 
-from reader import ROOT, build, picture, programs, slow, states, works
+from reader import ROOT, build, picture, programs, slow, states, stops, works
 from reader.events import Events
 from reader.failure import REFUSED, Failure
 from reader.interruption import INTERRUPTION, Interrupted
-from reader.listing import Listing, timed
+from reader.listing import STOP_COLUMNS, Listing, timed, timed_stop
 from reader.timeline import Timeline
 
 USAGE = """\
@@ -24,13 +24,17 @@ USAGE = """\
   FILE.txt             a text in the form of tools/README.md, with the loads of FILE.loads if that stands beside it
   -                    standard input: an image, or a text, which has no byte 0
 
-  --times              the listing with a title, and for each step the day and the times of day
+  --times              the listing or the stops with a title, and for each line the day and the times of day
   --events             in place of the listing what happens, a line for each time: elapsed h:mm:ss, and the day and the
                        time of day where the run begins at another time than 0:00 or is longer than a day
   --picture FILE.svg   draws the run too: levels, pumps and valves, control instants, steps
   --slow               the listing by the second clock, which walks a second at a time, in place of the driver; it does
                        not serve works with tanks, on the fast path, or with every timestep above a day: refused 14
-  --causes             with --slow, and behind each step what calls for the stop at its end
+  --stops              in place of the listing the instants at which a run stops, known before it runs, and how many;
+                       the line none for works with tanks, on the fast path, with a hydraulic timestep below both report
+                       and pattern timestep, or with both of these above a day
+  --causes             with --slow, and behind each step what calls for the stop at its end; or with --stops, and behind
+                       each instant what calls for it
   --list               the works of the stock, one line each
   --help               this text
 
@@ -40,9 +44,18 @@ text of that image; else they are made of sort and index as in tools/README.md: 
 
 The programs are built by `rt check`; the first time that proves every crate they stand on, and takes minutes.
 
-Exit status: 0; 1 refused, and standard error says why; 2 the command, a file or a proof is wrong; 3 a program died;
-130 interrupted.
+Exit status: 0; 1 refused, or no stops known, and standard error says why; 2 the command, a file or a proof is wrong;
+3 a program died or printed what cannot be; 130 interrupted.
 """
+
+TWO_ANSWERS = [
+    ("times", "events"),
+    ("slow", "events"),
+    ("slow", "picture"),
+    ("stops", "slow"),
+    ("stops", "events"),
+    ("stops", "picture"),
+]
 
 
 @dataclass
@@ -52,6 +65,7 @@ class Asked:
     events: bool = False
     picture: str = None
     slow: bool = False
+    stops: bool = False
     causes: bool = False
     list: bool = False
     help: bool = False
@@ -72,7 +86,7 @@ def parse(arguments):
     asked, left = Asked(), list(arguments)
     while left:
         word = left.pop(0)
-        if word in ("--times", "--events", "--slow", "--causes", "--list", "--help"):
+        if word in ("--times", "--events", "--slow", "--stops", "--causes", "--list", "--help"):
             setattr(asked, word[2:], True)
         elif word == "-h":
             asked.help = True
@@ -90,11 +104,11 @@ def parse(arguments):
 
 def judge(asked):
     """Whether the options go together."""
-    for one, other in (("times", "events"), ("slow", "events"), ("slow", "picture")):
+    for one, other in TWO_ANSWERS:
         if getattr(asked, one) and getattr(asked, other):
             raise wrong(f"--{one} and --{other} are two answers: ask for one")
-    if asked.causes and not asked.slow:
-        raise wrong("--causes goes with --slow only")
+    if asked.causes and not (asked.slow or asked.stops):
+        raise wrong("--causes goes with --slow or --stops only")
     if asked.list and asked.works is not None:
         raise wrong(f"--list is of the whole stock, and {asked.works} is one word more")
 
@@ -119,22 +133,33 @@ def answer(asked):
             print(f"{name:12} {works.title_of(path.read_text())}")
         return 0
     item = works.find("netherbeck" if asked.works is None else asked.works)
-    with_states = asked.events or asked.picture is not None
-    names = ["replay"] if asked.slow else ["driver", "replay"] if with_states else ["driver"]
-    first, *rest = build.build(ROOT, names, say)
+    first, *rest = build.build(ROOT, needed(asked), say)
     if asked.times or asked.events:
         print(item.title)
-    lines = slow.listing(first, item) if asked.slow else driver_listing(first, item)
+    if asked.stops:
+        return show_stops(first, item, asked)
+    lines = slow.listing(first, item) if asked.slow else printed(first, item)
     listed = list_steps(lines, item, asked)
-    reason = explain(item, listed.refused) if listed.refused else ""
-    if with_states and listed.accepted:
+    reason = explain(refusal_of(item, listed.refused)) if listed.refused else ""
+    if rest and listed.accepted:
         show_run(rest[0], item, listed, reason, asked)
     return REFUSED if listed.refused else 0
 
 
-def driver_listing(driver, item):
-    with closing(programs.lines(driver, item.data)) as lines:
-        yield from map(bytes.decode, lines)
+def needed(asked):
+    """The programs that give the answer."""
+    if asked.stops:
+        return ["timetable"]
+    if asked.slow:
+        return ["replay"]
+    return ["driver", "replay"] if asked.events or asked.picture is not None else ["driver"]
+
+
+def printed(program, item):
+    """The lines that a program prints for a works, as they come."""
+    with closing(programs.lines(program, item.data)) as lines:
+        for line in lines:
+            yield line.decode(errors="replace")
 
 
 def list_steps(lines, item, asked):
@@ -157,12 +182,16 @@ def shown(line, item, listed, asked):
     return told
 
 
-def explain(item, number):
-    """Says on standard error why a works is refused, and answers it."""
+def explain(reason):
+    """Says on standard error why a works is refused or has no stops beforehand, and answers that."""
     sys.stdout.flush()
-    reason = slow.reason(item.network) if number == slow.NOT_SERVED else fault_of(item, number)
     say(reason)
     return reason
+
+
+def refusal_of(item, number):
+    """Why the driver or the second clock refuses a works."""
+    return slow.reason(item.network) if number == slow.NOT_SERVED else fault_of(item, number)
 
 
 def fault_of(item, number):
@@ -171,6 +200,31 @@ def fault_of(item, number):
     if fault is None or fault.number != number:
         return f"refused {number}: and tools/image_decode.py, which has the reasons, says {fault}"
     return str(fault)
+
+
+def show_stops(timetable, item, asked):
+    """Prints the stops of a works, and answers the exit status."""
+    told = stops.Stops(item)
+    with closing(printed(timetable, item)) as lines:
+        for line in lines:
+            told.take(line)
+            print(shown_stop(line, told, asked))
+    told.judge_end()
+    if told.none:
+        explain(stops.reason(told.network))
+    if told.refused:
+        explain(fault_of(item, told.refused))
+    return REFUSED if told.none or told.refused else 0
+
+
+def shown_stop(line, told, asked):
+    """The last line that was taken, with what is asked for beside it; the columns have their heads above the first."""
+    if told.ended:
+        return line
+    text = timed_stop(told.last, told.network.start_clock) if asked.times else line
+    if asked.causes:
+        text += f"  {stops.causes(told.network, told.last)}"
+    return f"{STOP_COLUMNS}\n{text}" if asked.times and told.count == 1 else text
 
 
 def show_run(replay, item, listed, reason, asked):

@@ -1,4 +1,4 @@
-"""The driver's listing: its lines as they are, with times of day, and how it ended."""
+"""The driver's listing: its lines as they are, with times of day, and how it ended; times of day of stops."""
 
 from dataclasses import dataclass, field
 
@@ -6,6 +6,7 @@ from reader.failure import DIED, Failure
 
 DAY = 86_400  # seconds
 HEADER = "from length"
+STOP_COLUMNS = f"{'at':>10}   day  time"
 
 
 def clock(seconds):
@@ -53,6 +54,11 @@ class Listing:
             raise Failure("the driver's listing has no last line", DIED)
 
 
+def dated(seconds):
+    """The day of the run and the time of day, in the columns that they have."""
+    return f"{day(seconds):3}  {clock(seconds)}"
+
+
 def timed(line, start):
     """A line of the listing with the day and the times of day at which its step begins and ends."""
     first, _, second = line.partition(" ")
@@ -62,4 +68,9 @@ def timed(line, start):
         return line
     begin, end = start + int(first), start + int(first) + int(second)
     later = f"  day {day(end)}" if day(end) != day(begin) else ""
-    return f"{first:>10} {second:>8}   {day(begin):3}  {clock(begin)}  {clock(end)}{later}"
+    return f"{first:>10} {second:>8}   {dated(begin)}  {clock(end)}{later}"
+
+
+def timed_stop(instant, start):
+    """The instant of a stop with its day and time of day, under STOP_COLUMNS."""
+    return f"{instant:>10}   {dated(start + instant)}"

@@ -14,6 +14,8 @@ OPENS = {"Open", "Active", "Xflow", "XFCV", "XPressure", "FixedOpen"}
 LEVEL_TOLERANCE = 0.0001  # feet: L_TOL
 REACHED = 0.5  # cubic feet: a level is reached when less is missing
 DAY = 86_400  # seconds
+HOUR = 3_600  # seconds: the hydraulic timestep where its field is 0
+SKIP = 1  # flag of the options
 
 
 def is_open(status):
@@ -31,7 +33,9 @@ class Network:
     def __init__(self, tables, names):
         self.tables, self.names = tables, names
         self.duration, self.start_clock = tables.options["duration"], tables.options["start clock"]
+        self.hydraulic = tables.options["hydraulic"] or HOUR  # the timestep in force
         self.tanks = [index for index, node in enumerate(tables.nodes) if node["kind"] == "tank"]
+        self.on_fast_path = bool(tables.options["flags"] & SKIP) and not tables.controls and not self.tanks
 
     def node_name(self, index):
         return image_decode.thing_name(self.names, "node", self.tables.nodes[index]["kind"], index)

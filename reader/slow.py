@@ -1,6 +1,6 @@
 """The listing by the second clock, which walks a second at a time: the driver's calls, asked of `replay` one by one.
 
-The driver has no part in it. What calls for a stop is worked out here once more, from the tables by document 02.
+The driver has no part in it. What calls for a stop is worked out once more, from the tables by document 02.
 """
 
 import struct
@@ -8,22 +8,14 @@ from contextlib import closing
 
 import image_decode
 
-from reader import programs
-from reader.events import by_control
+from reader import programs, stops
 from reader.failure import DIED, Failure
 from reader.listing import HEADER
-from reader.network import CLOCK, DAY, TIME
+from reader.network import DAY
 from reader.states import NAMES, SLOW, Lines, image_of, loads_of, refusal, turn_calls
 
 NOT_SERVED = 14  # document 02's number
 MOST_CALLS = 5  # of a turn
-HOUR = 3_600  # seconds: the hydraulic timestep where its field is 0
-SKIP = 1  # flag of the options
-
-
-def hydraulic(options):
-    """The hydraulic timestep in force."""
-    return options["hydraulic"] or HOUR
 
 
 # --- The listing ---
@@ -106,14 +98,10 @@ class Engine:
 def reason(network):
     """Why the second clock does not serve a works."""
     options = network.tables.options
-    timesteps = options["report"], options["pattern timestep"], hydraulic(options)
-    if network.tanks:
-        which = f"with tanks: {network.node_name(network.tanks[0])} is one"
-    elif options["flags"] & SKIP and not network.tables.controls:
-        which = "on the fast path (skip, no controls, no tanks)"
-    elif min(timesteps) > DAY:
+    which = stops.stepped_otherwise(network)
+    if not which and min(options["report"], options["pattern timestep"], network.hydraulic) > DAY:
         which = "with report, pattern and hydraulic timestep all above a day"
-    else:
+    if not which:
         return f"refused {NOT_SERVED}: and reader/slow.py, which has the reasons, finds none"
     return f"refused {NOT_SERVED}: the second clock does not serve works {which}"
 
@@ -123,24 +111,4 @@ def reason(network):
 
 def causes(network, begin, length):
     """What calls for the stop at which a step ends, as its line has it."""
-    found = list(calling(network, begin, length))
-    if not found:
-        raise Failure(f"the second clock stops at {begin + length}, and nothing calls for a stop there", DIED)
-    return "; ".join(found)
-
-
-def calling(network, begin, length):
-    """Document 02: "report, pattern, hydraulic timestep, time and clock controls, duration"."""
-    options, end = network.tables.options, begin + length
-    if end % options["report"] == 0:
-        yield "report timestep"
-    if end % options["pattern timestep"] == 0:
-        yield "pattern timestep"
-    if length == hydraulic(options):
-        yield "hydraulic timestep"
-    for condition in (TIME, CLOCK):
-        for number, control in network.controls():
-            if control["condition"] == condition and network.is_due(control, end):
-                yield by_control(network, number, control)
-    if end == network.duration:
-        yield "duration"
+    return stops.causes(network, begin + length, "the second clock", length == network.hydraulic)

@@ -151,8 +151,9 @@ class Listings(Copied):
     def test_help(self):
         done = self.run_it("--help")
         self.assertEqual((done.returncode, done.stderr), (0, ""))
-        for word in ("NAME", "FILE.txt", "--times", "--events", "--picture", "--slow", "--causes", "--list", "Exit"):
-            self.assertIn(word, done.stdout)
+        options = "--times", "--events", "--picture", "--slow", "--stops", "--causes", "--list"
+        for word in ("  NAME", "  FILE.txt", *(f"  {option}" for option in options), "Exit"):
+            self.assertIn(f"\n{word} ", done.stdout)
 
     def test_a_reader_that_has_enough(self):
         shell = f"'{self.root / 'run'}' thornmoor | head -n 1"
@@ -169,6 +170,15 @@ class Wrong(Copied):
             (["coldash", "blank"], f"one works at a time, and blank is one more than coldash{see}"),
             (["--list", "blank"], f"--list is of the whole stock, and blank is one word more{see}"),
             (["--times", "--events"], f"--times and --events are two answers: ask for one{see}"),
+            (["--stops", "--slow"], f"--stops and --slow are two answers: ask for one{see}"),
+            (["--events", "--stops"], f"--stops and --events are two answers: ask for one{see}"),
+            (["--stops", "--picture", "x.svg"], f"--stops and --picture are two answers: ask for one{see}"),
+            (["--stops", "--times", "--events"], f"--times and --events are two answers: ask for one{see}"),
+            (["--times", "--causes"], f"--causes goes with --slow or --stops only{see}"),
+            (["--stops", "--list", "blank"], f"--list is of the whole stock, and blank is one word more{see}"),
+            (["--stops", "coldash", "blank"], f"one works at a time, and blank is one more than coldash{see}"),
+            (["--stop", "coldash"], f"there is no option --stop{see}"),
+            (["--stops", "nosuch"], "nosuch is no works of the stock and no file; ./run --list has the stock"),
             (["--picture"], f"--picture needs a file whose name ends in .svg{see}"),
             (["--picture", "coldash"], f"--picture needs a file whose name ends in .svg, not coldash{see}"),
             (["nosuch"], "nosuch is no works of the stock and no file; ./run --list has the stock"),
@@ -256,8 +266,8 @@ class Wrong(Copied):
 class Progress(Copied):
     def test_the_first_build_speaks(self):
         lines = self.run_it().stderr.splitlines()
-        self.assertEqual(lines[0], "run: proving and building driver, 48 crates; this first time takes minutes")
-        self.assertRegex(lines[1], r"^\[2/48\] driver, 17 s; 46 left, about \d+ s$")
+        self.assertEqual(lines[0], "run: proving and building driver, 50 crates; this first time takes minutes")
+        self.assertRegex(lines[1], r"^\[2/50\] driver, 17 s; 48 left, about \d+ s$")
 
     def test_the_next_is_silent(self):
         self.run_it()

@@ -417,8 +417,8 @@ class Commands(test_command.Copied):
         for arguments, message in (
             (["--slow", "--events"], "--slow and --events are two answers: ask for one"),
             (["--picture", "x.svg", "--slow"], "--slow and --picture are two answers: ask for one"),
-            (["--causes", "coldash"], "--causes goes with --slow only"),
-            (["--causes", "--events"], "--causes goes with --slow only"),
+            (["--causes", "coldash"], "--causes goes with --slow or --stops only"),
+            (["--causes", "--events"], "--causes goes with --slow or --stops only"),
         ):
             done = self.run_it(*arguments)
             self.assertEqual((done.returncode, done.stdout), (2, ""))

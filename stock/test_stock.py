@@ -8,6 +8,7 @@ sys.dont_write_bytecode = True
 
 import flows  # noqa: E402
 import make  # noqa: E402
+import stops  # noqa: E402
 import walk  # noqa: E402
 import works  # noqa: E402
 from works import FOLDER, Junction, image_decode, steps  # noqa: E402
@@ -71,16 +72,20 @@ class Files(unittest.TestCase):
             self.assertEqual(int(row[1].replace(",", "")), len(run.steps), item)
 
 
+def accepted():
+    """The works whose image is accepted, each with its project."""
+    for item in make.STOCK:
+        told = image_decode.decode(input_of(item)[0])
+        if not told.fault:
+            yield item, works.project_told(told)
+
+
 class SecondClock(unittest.TestCase):
     """Document 02, R-10: the works that the clock counting seconds serves, walked in Python, against their listings."""
 
     @staticmethod
     def served():
-        for item in make.STOCK:
-            told = image_decode.decode(input_of(item)[0])
-            project = None if told.fault else works.project_told(told)
-            if project and not walk.refusals(project):
-                yield item, project
+        return ((item, project) for item, project in accepted() if not walk.refusals(project))
 
     def test_it_serves_the_two_without_tanks_and_off_the_fast_path(self):
         self.assertEqual([item.name for item, _ in self.served()], ["coldash", "yarrowford"])
@@ -103,6 +108,35 @@ class SecondClock(unittest.TestCase):
             alone |= set(causes) if len(causes) == 1 else set()
             instant += length
         self.assertEqual(alone, set(walk.STOPS))
+
+
+class Stops(unittest.TestCase):
+    """Document 02, R-14: the works whose stops are known beforehand, by its rules, against their listings."""
+
+    @staticmethod
+    def foreseen():
+        return [(item, project) for item, project in accepted() if not stops.unforeseen(project)]
+
+    def test_only_one_is_foreseen_and_why_the_others_are_not(self):
+        reasons = {item.name: stops.unforeseen(project) for item, project in accepted()}
+        self.assertEqual(reasons.pop("coldash"), [])
+        self.assertEqual(reasons.pop("yarrowford"), ["hydraulic"])
+        self.assertEqual(reasons.pop("hazelcombe"), ["fast path"])
+        self.assertTrue(all("tank" in found for found in reasons.values()), reasons)
+
+    def test_the_rules_give_the_instants_of_the_listing(self):
+        self.assertTrue(self.foreseen())
+        for item, project in self.foreseen():
+            lines = item.path("listing").read_text().splitlines()[1:-1]
+            ends = [sum(map(int, line.split())) for line in lines]
+            self.assertEqual(list(stops.stops(project)), ends, item)
+
+    def test_every_cause_sets_an_instant_of_coldash(self):
+        project = next(project for item, project in self.foreseen() if item.name == "coldash")
+        found = stops.stops(project).values()
+        alone = {causes[0] for causes in found if len(causes) == 1}
+        self.assertEqual(alone, set(stops.CAUSES))
+        self.assertTrue(any(len(causes) > 1 for causes in found))
 
 
 class Flows(unittest.TestCase):

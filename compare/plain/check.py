@@ -34,7 +34,7 @@ def main():
     arguments = parser.parse_args()
     plain, oracle = Program(driver=build()), Program(arguments.oracle)
     listings = compare_stock(plain)
-    images = [generate.driven_image(generate.copied(image)) for image in limits.sweep()]
+    images = [generate.short_image(generate.copied(image), generate.DRIVER) for image in limits.sweep()]
     compare(plain, oracle, "sweep", images)
     seeds = range(arguments.seed, arguments.seed + arguments.count)
     compare(plain, oracle, "driver", [generate.drive_case(seed) for seed in seeds], arguments.seed)

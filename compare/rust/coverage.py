@@ -4,12 +4,14 @@
     coverage.py --oracle PATH --seed 1 --count 1000
 
 The candidates of a step are worked out a second time by steps.py, from document 01, and the second clock's walk by
-walk.py, from document 02. A step that is not the smallest of its candidates, a second clock that answers or leaves
-something else than the walk, or a line that begins with `panic`, ends the count with code 1; so does a thing to reach
-that is not reached.
+walk.py and a timetable by stops.py, from document 02. A step that is not the smallest of its candidates, a second clock
+that answers or leaves something else than the walk, another timetable, another count of stops, or a line that begins
+with `panic`, ends the count with code 1; so does a thing to reach that is not reached.
 """
 
 import argparse
+import bisect
+import itertools
 import math
 import struct
 import sys
@@ -20,6 +22,8 @@ from image import *
 from programs import Program
 from run import chunks
 from steps import NEVER, Levels, causes, control_time, tank_time, time_to_reach
+from stops import CAUSES as STOP_CAUSES
+from stops import REASONS, shorter_timestep, stops, timetable, unforeseen
 from values import H_TOL, L_TOL, volume
 from walk import STOPS, refusals, seconds_of, timesteps, walk
 
@@ -60,6 +64,8 @@ def count_case(counts, kind, case, answer):
     elif kind == "driver":
         counts[f"driver: {'steps' if lines[-1].startswith('steps') else lines[-1]}"] += 1
         counts["driver: steps in all"] += max(len(lines) - 2, 0)
+    elif kind == "stops":
+        count_timetable(counts, case, text)
     else:
         count_replay(counts, case, lines)
         if kind == "edge":
@@ -68,6 +74,7 @@ def count_case(counts, kind, case, answer):
             count_hours(counts, case, lines)
         if kind == "slow":
             count_both_clocks(counts, lines)
+            count_stops_so_far(counts, case, lines)
 
 
 def count_replay(counts, case, lines):
@@ -389,6 +396,137 @@ def count_both_clocks(counts, lines):
     counts["slow: both clocks in one list"] += moved == {"step", "slow"}
 
 
+# The timetable
+
+
+def count_timetable(counts, case, text):
+    """The oracle's instants have to be the set that stops.py works out, or `none` where that says so."""
+    if isinstance(case, Image):
+        counts[f"stops: {text.strip() if text.startswith('refused') else 'a damaged image accepted'}"] += 1
+        return
+    project = case.project
+    if text != timetable(project):
+        sys.exit(f"the rules give another timetable than the oracle's:\n{text}{generate.text_of(case)}")
+    reasons = unforeseen(project)
+    if reasons:
+        count_unforeseen(counts, project, reasons)
+    else:
+        table = stops(project)
+        counts["stops: foreseen"] += 1
+        counts["stops: foreseen with loads or bytes behind the image"] += bool(case.loads or case.tail)
+        count_foreseen_project(counts, project)
+        count_stop_timesteps(counts, project)
+        count_stop_causes(counts, table)
+        count_time_controls(counts, project)
+        count_clock_controls(counts, project, table)
+        count_end(counts, project, table)
+
+
+def count_unforeseen(counts, project, reasons):
+    options, shorter = project.options, shorter_timestep(project)
+    counts[f"stops: none for {reasons[0] + ' alone' if len(reasons) == 1 else 'several reasons'}"] += 1
+    counts["stops: none with duration 0"] += options.duration == 0
+    if reasons == ["hydraulic"]:
+        counts["stops: none with hydraulic one below the shorter"] += options.hydraulic == shorter - 1
+        counts["stops: none with hydraulic 0 and the shorter 3,601"] += options.hydraulic == 0 and shorter == HOUR + 1
+    if reasons == ["day"]:
+        for name in shorter_names(project):
+            counts[f"stops: none with {name} 86,401 the shorter"] += shorter == DAY + 1
+
+
+def shorter_names(project):
+    """Report, pattern or both."""
+    named = {"report": project.options.report, "pattern": project.options.pattern}
+    return [name for name, seconds in named.items() if seconds == min(named.values())]
+
+
+def count_foreseen_project(counts, project):
+    conditions = {control.condition for control in project.controls}
+    counts["stops: foreseen with a level control of no tank"] += not conditions.isdisjoint(LEVEL_CONDITIONS)
+    counts["stops: foreseen with a pressure control"] += not conditions.isdisjoint(PRESSURE_CONDITIONS)
+    counts["stops: foreseen with the skip flag and controls"] += bool(project.options.flags & SKIP)
+    counts["stops: foreseen without controls"] += not project.controls
+    counts["stops: foreseen with 64 controls"] += len(project.controls) == MOST_CONTROLS
+    counts["stops: foreseen with a pattern start"] += project.options.pattern_start % project.options.pattern != 0
+
+
+def count_stop_timesteps(counts, project):
+    options, shorter = project.options, shorter_timestep(project)
+    longer = max(options.report, options.pattern)
+    for seconds, name in ((shorter, "equal to"), (shorter + 1, "one above")):
+        counts[f"stops: hydraulic {name} the shorter"] += options.hydraulic == seconds
+    counts["stops: hydraulic between the two"] += shorter < options.hydraulic < longer
+    counts["stops: hydraulic one below the longer"] += shorter <= options.hydraulic == longer - 1
+    for seconds in (HOUR - 1, HOUR):
+        counts[f"stops: hydraulic 0 and the shorter {seconds:,}"] += options.hydraulic == 0 and shorter == seconds
+    counts["stops: report and pattern timestep the same"] += shorter == longer
+    for name in shorter_names(project) if shorter < longer else []:
+        counts[f"stops: {name} the shorter"] += 1
+        counts[f"stops: {name} alone within a day"] += longer > DAY
+        for seconds in (DAY - 1, DAY):
+            counts[f"stops: {name} {seconds:,} the shorter"] += shorter == seconds
+
+
+def count_stop_causes(counts, table):
+    for found in table.values():
+        if len(found) == 1:
+            counts[f"stops: {found[0]} alone"] += 1
+        for pair in itertools.combinations(found, 2):
+            counts[f"stops: {' and '.join(pair)} at once"] += 1
+        counts["stops: four or five causes at once"] += len(found) > 3
+
+
+def count_time_controls(counts, project):
+    times = [control.subject for control in project.controls if control.condition == TIME]
+    duration = project.options.duration
+    counts["stops: two time controls at once"] += len(set(times)) < len(times)
+    for name, seconds in (("0", 0), ("1", 1), ("the duration", duration), ("a second past it", duration + 1)):
+        counts[f"stops: a time control at {name}"] += duration > 1 and seconds in times
+
+
+def count_clock_controls(counts, project, table):
+    clocks = [control.subject for control in project.controls if control.condition == CLOCK_TIME]
+    start_clock = project.options.start_clock
+    counts["stops: two clock controls at once"] += len(set(clocks)) < len(clocks)
+    counts["stops: a start clock other than 0 and a clock control"] += start_clock != 0 and bool(clocks)
+    counts["stops: a clock control at the start's clock comes after a day"] += start_clock in clocks and DAY in table
+    due = [(instant + start_clock) % DAY for instant, found in table.items() if "clock control" in found]
+    for clock in (0, DAY - 1):
+        counts[f"stops: a clock control at {clock:,} stops it"] += clock in due
+    counts["stops: a clock control stops it past midnight"] += any(clock < start_clock for clock in due)
+    counts["stops: a clock control stops it on two days"] += len(set(due)) < len(due)
+
+
+def count_end(counts, project, table):
+    """Where the run ends, and how many stops it has."""
+    options = project.options
+    for duration in (0, 1, LONGEST_TIME):
+        counts[f"stops: duration {duration:,}"] += options.duration == duration
+    counts["stops: the duration before every other stop"] += list(table.values()) == [["duration"]]
+    for number in CHUNKED:
+        counts[f"stops: {number:,} stops"] += len(table) == number
+    counts["stops: more than 8,192 stops"] += len(table) > 2 * generate.CHUNK
+
+
+def count_stops_so_far(counts, case, lines):
+    """"After each list of demand 3 the reported count equals the number of those not past its instant": after every
+    call, since the calls up to it are a list too."""
+    if unforeseen(case.project):
+        return
+    moments = [tuple(int(word, 16) for word in line.split(" ")[2:4]) for line in lines]
+    last = moments[-1][0]
+    table = list(stops(case.project, last))
+    for instant, count in moments:
+        if count != bisect.bisect_right(table, instant):
+            sys.exit(f"at {instant} the count is {count}, and the stops are {table}:\n{generate.text_of(case)}")
+    at = "at" if last == case.project.options.duration else "before"
+    counts[f"stops: the count after a list that ends {at} the duration"] += len(table) > 1
+
+
+# A table that is a chunk short of one stop, one chunk, a chunk and one more, and two chunks.
+CHUNKED = (generate.CHUNK - 1, generate.CHUNK, generate.CHUNK + 1, 2 * generate.CHUNK)
+
+
 COUNTERS = {
     PATTERNS_CALL: count_patterns,
     CONTROLS_CALL: count_controls,
@@ -409,6 +547,7 @@ def expected():
     yield from expected_controls()
     yield from expected_steps()
     yield from expected_walks()
+    yield from expected_timetables()
     yield from named("status", ["close makes TempClosed"])
     yield from named("close", (f"{tank} tank, link {way} it, closed" for tank in ("full", "empty") for way in WAYS))
     yield from named("close", (f"full tank, link {way} it, overflow, left" for way in WAYS))
@@ -489,6 +628,42 @@ def expected_walks():
     yield from named("slow", ["a clock control stops it past midnight"])
     tables = ("a level control of no tank", "a pressure control", "the skip flag", "64 controls")
     yield from named("slow", (f"served with {what}" for what in tables))
+
+
+def expected_timetables():
+    yield from named("stops", ["foreseen", "a damaged image accepted"])
+    yield from named("stops", (f"refused {number}" for number in range(1, 7)))
+    yield from named("stops", (f"none for {reason} alone" for reason in REASONS))
+    yield from named("stops", ["none for several reasons", "none with duration 0"])
+    yield from named("stops", ["none with hydraulic one below the shorter"])
+    yield from named("stops", ["none with hydraulic 0 and the shorter 3,601"])
+    yield from named("stops", (f"hydraulic {edge} the shorter" for edge in ("equal to", "one above")))
+    yield from named("stops", ["hydraulic between the two", "hydraulic one below the longer"])
+    yield from named("stops", (f"hydraulic 0 and the shorter {seconds}" for seconds in ("3,599", "3,600")))
+    for name in ("report", "pattern"):
+        yield from named("stops", [f"{name} the shorter", f"{name} alone within a day"])
+        yield from named("stops", (f"{name} {seconds} the shorter" for seconds in ("86,399", "86,400")))
+        yield from named("stops", [f"none with {name} 86,401 the shorter"])
+    yield from named("stops", ["report and pattern timestep the same"])
+    yield from named("stops", (f"{cause} alone" for cause in STOP_CAUSES))
+    yield from named("stops", (f"{one} and {other} at once" for one, other in itertools.combinations(STOP_CAUSES, 2)))
+    yield from named("stops", ["four or five causes at once"])
+    instants = ("0", "1", "the duration", "a second past it")
+    yield from named("stops", (f"a time control at {instant}" for instant in instants))
+    yield from named("stops", (f"two {sort} controls at once" for sort in ("time", "clock")))
+    yield from named("stops", ["a start clock other than 0 and a clock control"])
+    yield from named("stops", ["a clock control at the start's clock comes after a day"])
+    days = ("past midnight", "on two days")
+    yield from named("stops", (f"a clock control at {clock} stops it" for clock in ("0", "86,399")))
+    yield from named("stops", (f"a clock control stops it {day}" for day in days))
+    yield from named("stops", (f"duration {seconds}" for seconds in ("0", "1", "315,360,000")))
+    yield from named("stops", ["the duration before every other stop", "more than 8,192 stops"])
+    yield from named("stops", (f"{number:,} stops" for number in CHUNKED))
+    tables = ("a level control of no tank", "a pressure control", "the skip flag and controls", "64 controls")
+    yield from named("stops", (f"foreseen with {what}" for what in tables))
+    yield from named("stops", ["foreseen without controls", "foreseen with a pattern start"])
+    yield from named("stops", ["foreseen with loads or bytes behind the image"])
+    yield from named("stops", (f"the count after a list that ends {at} the duration" for at in ("before", "at")))
 
 
 def main():

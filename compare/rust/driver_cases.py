@@ -8,32 +8,17 @@ and the count of cases. The cases are those below, each for a sentence of docume
 them, and last the works of the stock by their names; what the oracle answers to these is held to the stock's listings.
 """
 
-import argparse
-from pathlib import Path
-
 import generate
 import limits
+import stored
 from damage import spoilt_load
 from image import *
 from instants import one_tank, tank_t
-from programs import Program
+from stored import Raw
 from values import Chance
 
 SEEDS = range(1, 61)
 MOST_BYTES = 6_000
-STOCK = Path(__file__).resolve().parents[2] / "stock"
-
-
-class Raw:
-    """Bytes that are the input as they are."""
-
-    mode = DRIVER
-
-    def __init__(self, data):
-        self.data = data
-
-    def input(self):
-        return self.data
 
 
 def worked_example():
@@ -59,10 +44,7 @@ def largest():
 
 
 def counts():
-    """"A count of 0 or over 16,384, or fewer bytes than it needs, is number 1"."""
-    whole = Drive(worked_example(), []).input()
-    yield from (Raw(whole[:size]) for size in (0, 1, 2, 3, 4, 5, len(whole) - 4, len(whole) - 1))
-    yield from (Raw(to_bytes([count]) + whole[4:]) for count in (0, 16_385, 0xFFFFFFFF))
+    return stored.miscounted(Drive(worked_example(), []).input())
 
 
 def images():
@@ -72,7 +54,7 @@ def images():
         words = worked_example().words()
         words[position] ^= 1 << bit
         yield Image(words, mode=DRIVER)
-    yield from (generate.driven_image(image) for image in limits.sweep()[::400])
+    yield from (generate.short_image(image, DRIVER) for image in limits.sweep()[::400])
 
 
 def loads():
@@ -129,11 +111,7 @@ def hydraulic():
     yield Drive(Project(Options(10_000, 0, 5_000, 10_000, flags=SKIP)), [])
 
 
-def stock():
-    return [Raw(image.read_bytes()) for image in sorted(STOCK.glob("*.image"))]
-
-
-PARTS = (counts, images, loads, long_ones, seeded, strained, hydraulic, stock)
+PARTS = (counts, images, loads, long_ones, seeded, strained, hydraulic, stored.stock)
 
 
 def inputs():
@@ -141,31 +119,11 @@ def inputs():
 
 
 def check_stock(answers):
-    for image, answer in zip(sorted(STOCK.glob("*.image")), answers):
+    """The last answers are the listings of the stock."""
+    for image, answer in zip(stored.stock_images(), answers[-len(stored.stock()) :]):
         if image.with_suffix(".listing").read_bytes() != answer:
             raise SystemExit(f"{image.name}: the oracle's answer is not the listing")
 
 
-def main():
-    parser = argparse.ArgumentParser(description=__doc__, formatter_class=argparse.RawDescriptionHelpFormatter)
-    parser.add_argument("--oracle", required=True)
-    parser.add_argument("--out", required=True)
-    arguments = parser.parse_args()
-    data = Path(arguments.out) / "data"
-    data.mkdir(parents=True, exist_ok=True)
-    for old in data.glob("case*"):
-        old.unlink()
-    made = inputs()
-    answers = Program(arguments.oracle).answers([(DRIVER, given) for given in made])
-    check_stock(answers[-len(stock()):])
-    expected = b""
-    for number, (given, answer) in enumerate(zip(made, answers)):
-        name = f"case{number:03}"
-        (data / name).write_bytes(given)
-        expected += name.encode() + b"\n" + answer
-    (Path(arguments.out) / "stdout").write_bytes(expected + b"%d cases\n" % len(made))
-    print(f"{len(made)} cases in {data}")
-
-
 if __name__ == "__main__":
-    main()
+    stored.store(__doc__, DRIVER, inputs(), check_stock)

@@ -65,8 +65,15 @@ def fault(words, file, *changes):
 
 def reading(words, file, *changes):
     """A fault in the oracle's own source, from (old, new)."""
-    shows_in = {"image.rs": "image", "driver.rs": "driver", "second_clock.rs": "slow"}.get(file, "other")
-    return Fault(words, file, tuple(Passage(*change) for change in changes), True, shows_in)
+    return Fault(words, file, tuple(Passage(*change) for change in changes), True, SHOWS_IN.get(file, "other"))
+
+
+def timetable(words, old, new):
+    """A fault in the oracle's timetable."""
+    return reading(words, "timetable.rs", (old, new))
+
+
+SHOWS_IN = {"image.rs": "image", "driver.rs": "driver", "second_clock.rs": "slow", "timetable.rs": "stops"}
 
 
 def slow_call(words, old, new):
@@ -525,7 +532,107 @@ SECOND_CLOCK = [
               "let length = self.step(); self.patterns(); Ok(length)"),
 ]
 
+REPORT_AND_PATTERN = "[project.options.report_timestep as usize, project.options.pattern_timestep as usize]"
+HYDRAULIC_LONG = "timesteps(project).iter().any(|&seconds| hydraulic >= seconds)"
+ONE_WITHIN_A_DAY = "timesteps(project).iter().any(|&seconds| seconds <= DAY)"
+IN_FORCE = "hydraulic_in_force(project.options.hydraulic_timestep)"
+
+FORESEEN = [
+    timetable("a works with tanks is foreseen", "!has_tanks(project) && ", ""),
+    timetable("the fast path is foreseen", "!is_on_fast_path(project) && ", ""),
+    timetable("the skip flag is the fast path, controls or not", "!is_on_fast_path(project)",
+              "!project.options.skip_timesteps"),
+    timetable("a works without controls is on the fast path, skip flag or not", "!is_on_fast_path(project)",
+              "!project.controls.is_empty()"),
+    timetable("a level control counts as a tank", "!has_tanks(project)",
+              "!has_tanks(project) && !project.controls.iter().any(|control| matches!(control.condition, "
+              "crate::project::Condition::HighLevel { .. } | crate::project::Condition::LowLevel { .. }))"),
+    timetable("a works with pressure controls is not foreseen", "!has_tanks(project)",
+              "!has_tanks(project) && !project.controls.iter().any(|control| matches!(control.condition, "
+              "crate::project::Condition::HighPressure { .. } | crate::project::Condition::LowPressure { .. }))"),
+    timetable("any hydraulic timestep is foreseen", "is_hydraulic_long(project) && ", ""),
+    timetable("any report and pattern timesteps are foreseen", " && is_one_within_a_day(project)", ""),
+    timetable("one of the two conditions on timesteps is enough",
+              "is_hydraulic_long(project) && is_one_within_a_day(project)",
+              "(is_hydraulic_long(project) || is_one_within_a_day(project))"),
+    timetable("a hydraulic timestep equal to the shorter is not foreseen", "hydraulic >= seconds",
+              "hydraulic > seconds"),
+    timetable("a hydraulic timestep one below the shorter is foreseen", "hydraulic >= seconds",
+              "hydraulic + 1 >= seconds"),
+    timetable("the hydraulic timestep has to be at least both", HYDRAULIC_LONG, HYDRAULIC_LONG.replace("any", "all")),
+    timetable("the hydraulic timestep has to be at least the report timestep", HYDRAULIC_LONG,
+              "hydraulic >= timesteps(project)[0]"),
+    timetable("the hydraulic timestep has to be at least the pattern timestep", HYDRAULIC_LONG,
+              "hydraulic >= timesteps(project)[1]"),
+    timetable("a hydraulic timestep of 0 is below every other", IN_FORCE,
+              "project.options.hydraulic_timestep as usize"),
+    timetable("a hydraulic timestep of 0 is no bound", IN_FORCE,
+              "if project.options.hydraulic_timestep == 0 { usize::MAX } "
+              "else { project.options.hydraulic_timestep as usize }"),
+    timetable("86,401 is within a day", "86_400", "86_401"),
+    timetable("86,400 is above a day", "86_400", "86_399"),
+    timetable("both timesteps have to be within a day", ONE_WITHIN_A_DAY, ONE_WITHIN_A_DAY.replace("any", "all")),
+    timetable("the report timestep has to be within a day", ONE_WITHIN_A_DAY, "timesteps(project)[0] <= DAY"),
+    timetable("the pattern timestep has to be within a day", ONE_WITHIN_A_DAY, "timesteps(project)[1] <= DAY"),
+    timetable("a duration of a day or less is enough", ONE_WITHIN_A_DAY,
+              f"{ONE_WITHIN_A_DAY} || project.options.duration as usize <= DAY"),
+    timetable("the pattern timestep is not asked", REPORT_AND_PATTERN,
+              "[project.options.report_timestep as usize, usize::MAX]"),
+    timetable("the report timestep is not asked", REPORT_AND_PATTERN,
+              "[usize::MAX, project.options.pattern_timestep as usize]"),
+    timetable("a duration of 0 has no timetable", "!has_tanks(project)",
+              "project.options.duration > 0 && !has_tanks(project)"),
+]
+
+TABLED = 'writeln!(out, "{}", progress.instant())?;'
+STEPS_LINE = 'writeln!(out, "steps {}", progress.count())'
+REFUSED_LINE, NONE_LINE = 'writeln!(out, "refused {fault}")', 'writeln!(out, "none")'
+
+TIMETABLE = [
+    timetable("0 is listed", "progress.step();\n", f"if progress.count() == 0 {{ {TABLED} }} progress.step();\n"),
+    timetable("the instants at which steps begin", "progress.step();\n        " + TABLED, f"{TABLED} progress.step();"),
+    timetable("the duration is not listed", TABLED, f"if progress.instant() < progress.duration() {{ {TABLED} }}"),
+    timetable("the lengths of the steps for the instants", "progress.step();\n        " + TABLED,
+              'let length = progress.step(); writeln!(out, "{length}")?;'),
+    timetable("the last stop before the duration is missing", "progress.step();\n        " + TABLED,
+              "let before = progress.instant(); progress.step(); "
+              'if before > 0 && progress.instant() < progress.duration() { writeln!(out, "{before}")?; } '
+              f"if progress.instant() == progress.duration() {{ {TABLED} }}"),
+    timetable("an instant set by report and pattern is listed twice", TABLED,
+              f"if timesteps(project).iter().all(|seconds| progress.instant() % seconds == 0) {{ {TABLED} }} {TABLED}"),
+    timetable("an instant set by two time controls is listed twice", TABLED,
+              "let now = progress.instant(); for _ in 1..project.controls.iter().filter(|control| matches!("
+              "control.condition, crate::project::Condition::Time { seconds } if seconds as usize == now)).count() "
+              f"{{ {TABLED} }} {TABLED}"),
+    timetable("an instant set by a time control alone is not listed", TABLED,
+              "let now = progress.instant(); if now == progress.duration() "
+              "|| timesteps(project).iter().any(|seconds| now % seconds == 0) "
+              "|| !project.controls.iter().any(|control| matches!("
+              "control.condition, crate::project::Condition::Time { seconds } if seconds as usize == now)) "
+              f"{{ {TABLED} }}"),
+    timetable("the start counts", STEPS_LINE, 'writeln!(out, "steps {}", progress.count() + 1)'),
+    timetable("the duration does not count", STEPS_LINE,
+              'writeln!(out, "steps {}", progress.count().saturating_sub(1))'),
+    timetable("the duration for the count", STEPS_LINE, 'writeln!(out, "steps {}", progress.instant())'),
+    timetable("no count", STEPS_LINE, "Ok(())"),
+    timetable("the count begins again with a chunk", STEPS_LINE, 'writeln!(out, "steps {}", progress.count() % 4096)'),
+    timetable("the first stop of the second chunk is missing", TABLED, f"if progress.count() != 4097 {{ {TABLED} }}"),
+    timetable("the last stop of a chunk is listed twice", TABLED,
+              f"if progress.count() % 4096 == 0 {{ {TABLED} }} {TABLED}"),
+    timetable("a table of one whole chunk has no count", STEPS_LINE,
+              f"if progress.count() == 4096 {{ Ok(()) }} else {{ {STEPS_LINE} }}"),
+    timetable("a table ends after two chunks", "progress.instant() < progress.duration()",
+              "progress.instant() < progress.duration() && progress.count() < 8192"),
+    timetable("`none` for a refused image", REFUSED_LINE, NONE_LINE),
+    timetable("a works that is not foreseen is refused", NONE_LINE, 'writeln!(out, "refused 14")'),
+    timetable("no steps for a works that is not foreseen", NONE_LINE, 'writeln!(out, "steps 0")'),
+    timetable("a count behind `none`", NONE_LINE, 'writeln!(out, "none\\nsteps 0")'),
+    timetable("bytes behind the image are refused", "let project = match Input::new(bytes).project() {",
+              "let mut input = Input::new(bytes); let read = input.project(); "
+              "let project = match read.and_then(|project| if input.is_empty() { Ok(project) } else { Err(7) }) {"),
+]
+
 FAULTS = [
     *TEMPTING, *TANKS, *PATTERNS, *CONTROLS, *LINKS, *CLOSING, *STEPS, *PREMISES, *IMAGES, *LOADS, *CALLS, *DRIVING,
-    *SECOND_CLOCK,
+    *SECOND_CLOCK, *FORESEEN, *TIMETABLE,
 ]

@@ -1,7 +1,7 @@
 #!/usr/bin/env python3
 """Is the comparison sharp? Plants faults in a copy of the oracle, one at a time, and demands that each is found.
 
-    faults.py --replay PATH --driver PATH [--seed 1] [--count 1000] [--only NUMBER ..]
+    faults.py --replay PATH --driver PATH --timetable PATH [--seed 1] [--count 1000] [--only NUMBER ..]
 
 The cases are run.py's: the sweep of images and one case of every other kind for each seed. The programs under
 comparison answer them once; the oracle without a fault has to agree with them on all. Each fault of fault_list.py is
@@ -34,12 +34,14 @@ FIRST_PIECE, LONGEST_PIECE = 25, 400
 # Seconds for a piece. A planted fault might let a run step on for ever.
 PATIENCE = 60
 
-# An image's faults show in images first, a driver's in the driver, the second clock's in its own lists.
+# An image's faults show in images first, a driver's in the driver, the second clock's in its own lists, and those of a
+# timetable in timetables.
 ORDERS = {
-    "image": ("sweep", "image", "replay", "edge", "hours", "driver", "strain", "slow"),
-    "driver": ("driver", "strain", "replay", "edge", "hours", "slow", "image", "sweep"),
-    "slow": ("slow", "replay", "edge", "hours", "driver", "strain", "image", "sweep"),
-    "other": ("replay", "edge", "hours", "driver", "strain", "slow", "image", "sweep"),
+    "image": ("sweep", "image", "replay", "edge", "hours", "driver", "strain", "slow", "stops"),
+    "driver": ("driver", "strain", "replay", "edge", "hours", "slow", "stops", "image", "sweep"),
+    "slow": ("slow", "replay", "edge", "hours", "driver", "strain", "stops", "image", "sweep"),
+    "stops": ("stops", "slow", "replay", "edge", "hours", "driver", "strain", "image", "sweep"),
+    "other": ("replay", "edge", "hours", "driver", "strain", "slow", "stops", "image", "sweep"),
 }
 
 # Built for a quick build: what the oracle answers does not depend on it.

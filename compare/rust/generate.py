@@ -2,7 +2,7 @@
 """Random projects, lists of calls, driver inputs and damaged images, each fixed by its seed.
 
     generate.py --replay SEED | --edge SEED | --hours SEED | --slow SEED | --driver SEED | --strain SEED |
-                --image SEED | --sweep NUMBER [--out FILE] [--text]
+                --stops SEED | --image SEED | --sweep NUMBER [--out FILE] [--text]
 
 A sweep's images are not random: they try each field's limits, each header and each table's end one by one.
 With --text the image and its loads are written as the text of tools/image; why the input is refused stands in front,
@@ -22,6 +22,7 @@ import image_show
 import limits
 from image import *
 from steps import Levels, advance, put_load, starting_levels, time_to_reach
+from stops import shorter_timestep, stops
 from values import *
 from walk import refusals
 
@@ -43,7 +44,7 @@ def drive_case(seed):
     moments = make_moments(chance, project)
     project.premises = make_premises(chance, project, moments)
     if chance.one_in(8):
-        return driven_image(damage.damaged(chance, project))
+        return short_image(damage.damaged(chance, project), DRIVER)
     loads = [moment.load for moment in moments[: chance.randint(0, len(moments))]]
     if chance.one_in(4):
         loads.append(damage.spoilt_load(chance, chance.choice(moments).load))
@@ -138,9 +139,28 @@ def strained(chance, tank, links):
     return Load(flows, [chance.uniform(0.0, 100.0)])
 
 
-def driven_image(image, longest=50):
-    """A damaged image for the driver. The damage may lie in the times, so the duration is kept short."""
-    image.mode = DRIVER
+def stops_case(seed):
+    """Images for the timetable, mostly of works that are foreseen, at and about the edges of what is; few are refused.
+    Some have loads or other bytes behind them, which are not read."""
+    chance = Chance(f"stops {seed}")
+    project = stops_project(chance)
+    if chance.one_in(12):
+        spoilt = chance.among((6, lambda: damage.damaged(chance, project)), (1, lambda: miscounted(chance, project)))
+        return short_image(spoilt, TIMETABLE)
+    load = Load([0.0] * len(project.links), [0.0] * len(project.junctions()))
+    tail = bytes(chance.randint(1, 6)) if chance.one_in(8) else b""
+    return Tabulate(project, [load] * chance.choice((0, 0, 0, 1, 2)), tail)
+
+
+def miscounted(chance, project):
+    """An image under a count of none, of too many, or of more words than there are."""
+    words = project.words()
+    return Image(words, chance.choice((0, len(words) + 1, MOST_WORDS, MOST_WORDS + 1, limits.ONES)))
+
+
+def short_image(image, mode, longest=50):
+    """A damaged image for a run. The damage may lie in the times, so the duration is kept short."""
+    image.mode = mode
     if len(image.words) > 1 and image.words[1] <= LONGEST_TIME:
         image.words[1] = min(image.words[1], longest)
     return image
@@ -753,6 +773,106 @@ def walked_at_most(project, calls, most):
     return calls
 
 
+# The timetable
+
+# The program under comparison works out so many stops at once.
+CHUNK = 4_096
+
+# A program that takes a works with a short hydraulic timestep for foreseen has to come to an end too.
+MOST_STOPS = 20_000
+
+
+def stops_project(chance):
+    """Mostly without tanks and with few records beside the controls."""
+    project = sized_project(chance, slow_sizes(chance), timed_options(chance, *stops_timesteps(chance)))
+    if project.links:
+        project.controls = slow_controls(chance, project)
+        move_controls(chance, project)
+    if project.is_on_fast_path() and not chance.one_in(3):
+        project.options.flags ^= SKIP
+    end_stops(chance, project)
+    return project
+
+
+def end_stops(chance, project):
+    """Puts the duration about one of the first stops, or now and then where a program that works in chunks ends one."""
+    if chance.one_in(20):
+        end_at_stop(project, chance.choice((CHUNK - 1, CHUNK, CHUNK, CHUNK + 1, CHUNK + 1, 2 * CHUNK, 4 * CHUNK)))
+    else:
+        end_about_a_stop(chance, project)
+        move_to_the_end(chance, project)
+    options = project.options
+    options.duration = min(options.duration, MOST_STOPS * options.hydraulic_in_force())
+
+
+def stops_timesteps(chance):
+    """Report, pattern and hydraulic: the shorter of the first two at and about a day or an hour, or any; the longer its
+    multiple, close behind it or far off; the hydraulic at and about either, between them, 0 or no bound."""
+    shorter = chance.among(
+        (3, lambda: chance.choice((DAY - 1, DAY, DAY, DAY + 1))),
+        (2, lambda: HOUR + chance.randint(-1, 1)),
+        (2, lambda: chance.randint(1, 40)),
+        (4, lambda: timestep(chance)),
+    )
+    longer = chance.among(
+        (3, lambda: shorter * chance.randint(1, 4)),
+        (2, lambda: shorter + chance.randint(0, shorter)),
+        (2, lambda: max(shorter, chance.choice((DAY - 1, DAY, DAY + 1, LONGEST_TIME)))),
+    )
+    longer = min(longer, LONGEST_TIME)
+    hydraulic = chance.among(
+        (5, lambda: shorter + chance.choice((-1, 0, 0, 1))),
+        (2, lambda: longer + chance.randint(-1, 1)),
+        (2, lambda: chance.randint(shorter, longer)),
+        (2, 0),
+        (2, LONGEST_TIME),
+        (1, lambda: timestep(chance)),
+    )
+    report, pattern = chance.sample((shorter, longer), 2)
+    return report, pattern, min(hydraulic, LONGEST_TIME)
+
+
+def move_controls(chance, project):
+    """Moves half of the controls that go by the time to the start, to a multiple, to midnight or onto another."""
+    options = project.options
+    for control in project.controls:
+        others = [other.subject for other in project.controls if other.condition == control.condition]
+        if control.condition == TIME and chance.one_in(2):
+            multiple = chance.choice((options.report, options.pattern)) * chance.randint(1, 4)
+            control.subject = min(chance.choice((0, 1, multiple, chance.choice(others))), LONGEST_TIME)
+        elif control.condition == CLOCK_TIME and chance.one_in(2):
+            control.subject = chance.choice((0, DAY - 1, options.start_clock, chance.choice(others)))
+
+
+def end_at_stop(project, number):
+    """Puts the duration at the stop of this number, or at the last that a run may have."""
+    options = project.options
+    options.duration = min(number * shorter_timestep(project), LONGEST_TIME)
+    options.duration = list(stops(project))[:number][-1]
+
+
+def end_about_a_stop(chance, project):
+    """Puts the duration at one of the first stops or a little off it, before the first, or at 0."""
+    end_at_stop(project, chance.randint(1, 60))
+    end = project.options.duration
+    end = chance.among(
+        (6, end),
+        (3, lambda: end + chance.choice((-1, 1, 77))),
+        (1, lambda: chance.choice((0, 1, 2))),
+        (1, lambda: chance.randrange(shorter_timestep(project))),
+    )
+    project.options.duration = min(max(end, 0), LONGEST_TIME)
+
+
+def move_to_the_end(chance, project):
+    """Moves one of the controls that go by the time to the duration, or a second off it, now and then."""
+    controls = [control for control in project.controls if control.condition in (TIME, CLOCK_TIME)]
+    if controls and chance.one_in(3):
+        control, options = chance.choice(controls), project.options
+        due = min(max(options.duration + chance.choice((0, 0, -1, 1)), 0), LONGEST_TIME)
+        control.subject = due if control.condition == TIME else (options.start_clock + due) % DAY
+
+
 CASES = {
     "replay": replay_case,
     "edge": edge_case,
@@ -760,6 +880,7 @@ CASES = {
     "slow": slow_case,
     "driver": drive_case,
     "strain": strain_case,
+    "stops": stops_case,
     "image": image_case,
     "sweep": sweep_case,
 }

@@ -239,7 +239,7 @@ class Project:
 
 
 # The modes, as a batch numbers them.
-REPLAY, DRIVER = 1, 2
+REPLAY, DRIVER, TIMETABLE = 1, 2, 3
 
 
 @dataclass
@@ -269,6 +269,13 @@ class Drive:
         image = self.project.words()
         loads = [word for load in self.loads for word in load.words()]
         return to_bytes([len(image)] + image + loads) + self.tail
+
+
+@dataclass
+class Tabulate(Drive):
+    """The input of `timetable`: the driver's, of which the image alone is read."""
+
+    mode = TIMETABLE
 
 
 @dataclass

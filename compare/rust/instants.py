@@ -150,10 +150,10 @@ def closing(asked):
         asked.expect(f"full tank, overflow {overflow}, link into it", status, int(line[-2], 16))
 
 
-def refusals(asked):
-    """One image or call for each number that a program can be made to answer."""
+def refused_images():
+    """What is wrong and the words, one image for each of the numbers 1 to 6 in their order."""
     bare = Project(Options())
-    images = (
+    return (
         ("no words", []),
         ("a pattern before the options", Pattern([1.0]).words()),
         ("options cut", bare.words()[:-1]),
@@ -161,7 +161,12 @@ def refusals(asked):
         ("pattern timestep 0", Project(Options(pattern=0)).words()),
         ("default pattern to nothing", Project(Options(default_pattern=1)).words()),
     )
-    for number, (what, words) in enumerate(images, start=1):
+
+
+def refusals(asked):
+    """One image or call for each number that a program can be made to answer."""
+    bare = Project(Options())
+    for number, (what, words) in enumerate(refused_images(), start=1):
         asked.expect(what, f"refused {number}\n", asked.answer(Image(words)))
     asked.expect("a load with a flow too many", "refused=7", asked.replay(bare, load(1.0))[0][1])
     junction = Project(Options(), nodes=[Junction()])

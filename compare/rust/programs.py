@@ -4,21 +4,23 @@ import struct
 import subprocess
 from pathlib import Path
 
-from image import DRIVER, REPLAY
+from image import DRIVER, REPLAY, TIMETABLE
 
-MODES = {REPLAY: "replay", DRIVER: "driver"}
+MODES = {REPLAY: "replay", DRIVER: "driver", TIMETABLE: "timetable"}
 
-# An empty input has no image, which is number 1 in both modes.
+# An empty input has no image, which is number 1 in every mode.
 PROBE, PROBE_ANSWER = b"", b"refused 1\n"
 
 
 class Program:
-    """A program with the modes `replay`, `driver` and, where it has one, `batch`; or one program for each mode."""
+    """A program with the modes `replay`, `driver`, `timetable` and, where it has one, `batch`; or one program for each
+    mode."""
 
-    def __init__(self, path=None, replay=None, driver=None, batch=None, timeout=600):
+    def __init__(self, path=None, replay=None, driver=None, timetable=None, batch=None, timeout=600):
         self.commands = {
             REPLAY: command(replay) or command(path, "replay"),
             DRIVER: command(driver) or command(path, "driver"),
+            TIMETABLE: command(timetable) or command(path, "timetable"),
         }
         self.timeout = timeout
         self.batch = command(batch) or command(path, "batch")
@@ -65,16 +67,18 @@ class Program:
 
 def add_arguments(parser):
     """The options by which a command line names the program that is compared."""
-    parser.add_argument("--ours", help="a program with the modes replay and driver, and batch if it has it")
+    parser.add_argument("--ours", help="a program with the modes replay, driver and timetable, and batch if it has it")
     parser.add_argument("--replay", help="a program that is our replay")
     parser.add_argument("--driver", help="a program that is our driver")
+    parser.add_argument("--timetable", help="a program that is our timetable")
     parser.add_argument("--batch", help="a program that is our batch")
 
 
 def named_by(arguments, parser):
-    if not (arguments.ours or arguments.replay or arguments.driver or arguments.batch):
-        parser.error("no program: give --ours, or --replay, --driver or --batch")
-    return Program(arguments.ours, arguments.replay, arguments.driver, arguments.batch)
+    named = (arguments.ours, arguments.replay, arguments.driver, arguments.timetable, arguments.batch)
+    if not any(named):
+        parser.error("no program: give --ours, or --replay, --driver, --timetable or --batch")
+    return Program(*named)
 
 
 def command(path, *arguments):

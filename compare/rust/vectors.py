@@ -11,11 +11,10 @@ wrong, then the cases so kept, then those of the narrow kinds by which faults.py
 the end the second clock's, chosen in the same way among its own and by what coverage.py counts of it, and works of the
 stock walked by it, which are held to their listings. data/case000, data/case001, .. are the inputs; stdout has for each
 a line with its name and then the answer, and ends with the number of cases. Where something is not reached it is named,
-and the end is code 1; what coverage.py counts of `driver` is not asked for.
+and the end is code 1; what coverage.py counts of `driver` and `timetable` is not asked for.
 """
 
 import argparse
-import shutil
 import sys
 from collections import Counter
 from dataclasses import dataclass
@@ -26,16 +25,16 @@ from coverage import count_case, expected
 from image import MOST_LINKS, MOST_WORDS, PATTERNS_CALL, REPLAY, SLOW_CALL, STEP_CALL, Options, Replay, to_bytes
 from programs import Program
 from run import chunks
+from stored import STOCK, write
 
 KINDS = ["sweep", "image", "replay"]
 SECOND_CLOCK = ["slow"]
 ORDER = KINDS + SECOND_CLOCK
-OTHER_KINDS = ("driver", "edge", "hours", "strain")
+OTHER_KINDS = ("driver", "edge", "hours", "strain", "stops")
 NARROW = {"edge": (1, 2, 3, 35, 63, 422), "hours": (1, 2, 149, 155)}  # seeds
 LARGE = 20_000  # bytes of input and answer
 SECOND_CLOCK_SEEDS = 1000  # the walks are worked out again in Python, which takes its time
 SECOND_CLOCK_TIMES = 2
-STOCK = Path(__file__).resolve().parents[2] / "stock"
 WALKED = ("coldash", "yarrowford")  # the works of the stock that the second clock serves
 NOT_WALKED = ("hazelcombe", "netherbeck")  # one on the fast path, one with a tank
 CALL_CODES = range(PATTERNS_CALL, STEP_CALL + 1)
@@ -181,18 +180,6 @@ def cut(oracle, kind, case, wanted, least_calls):
         middle = (low + high) // 2
         low, high = (low, middle) if reaches(middle) else (middle + 1, high)
     return Replay(case.project, case.calls[:low])
-
-
-def write(folder, inputs, answers):
-    data = folder / "data"
-    shutil.rmtree(data, ignore_errors=True)
-    data.mkdir(parents=True)
-    output = b""
-    for number, (case, answer) in enumerate(zip(inputs, answers)):
-        name = f"case{number:03}"
-        (data / name).write_bytes(case)
-        output += name.encode() + b"\n" + answer
-    (folder / "stdout").write_bytes(output + b"%d cases\n" % len(inputs))
 
 
 if __name__ == "__main__":

@@ -1,4 +1,4 @@
-//! The driver's lines, gathered and written in large pieces.
+//! The lines of the driver and of the timetable, gathered and written in large pieces.
 
 use std::io::{self, Write};
 
@@ -25,6 +25,16 @@ impl<W: Write> Listing<W> {
         self.decimal(from);
         self.text.push(b' ');
         self.decimal(length);
+        self.end_line()
+    }
+
+    pub fn stop(&mut self, instant: u32) -> io::Result<()> {
+        self.decimal(instant);
+        self.end_line()
+    }
+
+    pub fn none(&mut self) -> io::Result<()> {
+        self.text.extend_from_slice(b"none");
         self.end_line()
     }
 

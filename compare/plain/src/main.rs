@@ -2,6 +2,7 @@
 
 mod image;
 mod input;
+#[expect(dead_code)] // what the timetable alone needs
 mod listing;
 mod load;
 mod network;

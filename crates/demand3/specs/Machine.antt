@@ -6,12 +6,14 @@ use mathlib.Core.Bool.{true, cond}
 use mathlib.Core.List.{List}
 use Rattle.clock.specs.Demand3.{Claim}
 use Rattle.clock.specs.Machine.{Machine}
+use Rattle.stops.specs.Exact.{Exact}
 use Rattle.model.specs.declared.project.Project.{Project}
 use Rattle.model.specs.declared.state.State.{State}
 use Rattle.judge.specs.Judgement.{inOrder}
 use Rattle.simulation.specs.Steps.{Level, timesOf, triggersOf, momentOf}
 use Rattle.calls.specs.Calls.{start}
 use Rattle.second_clock.specs.SecondClock.{secondApplies}
+use Rattle.stops_ahead.specs.Foreseen.{stopsForeseen}
 use Rattle.list_words.specs.Calls.{Call, patterns, controls, load, tankLinks, pressure, premise, step, second, isStep}
 use Rattle.demand3.specs.Calls.{outcome}
 
@@ -43,5 +45,7 @@ machine p = record {
 }
 
 -- demand 3 of a project and a list from its start, of the state z that the list leaves
-abbrev pub Demand3 : Project → List Call → State → Type 0
-Demand3 p calls z = Claim (machine p) (timesOf p) (triggersOf p) calls (start p .state) z
+pub record Demand3 (p : Project) (calls : List Call) (z : State) : Type 0 where
+  pub claim : Claim (machine p) (timesOf p) (triggersOf p) calls (start p .state) z
+  -- document 02, R-14: the exact instants, "in place of the bound for such projects"
+  pub exact : stopsForeseen p ≡ true → Exact (machine p) (timesOf p) (triggersOf p) calls (start p .state) z

@@ -9,6 +9,7 @@ use lib.Dec.{ltb}
 use lib.ListN.{length, length-append}
 use Rattle.clock.proofs.Lengths.{length-positive}
 use Rattle.clock.proofs.Tests.{ltb-ind, eqb-ind}
+use Rattle.clock.specs.Triggers.{lengthAt}
 use Rattle.clock.specs.declared.hand.Clock.{Clock}
 use Rattle.listing.specs.Listing.{Line}
 use Rattle.words.specs.Words.{firstWords}
@@ -43,29 +44,51 @@ closed-clock : (p : Project) (s : State) → tankLinks p s .state .clock ≡ s .
 unfolding outcome
 closed-clock p s = quiet p asking.tankLinks s refl
 
--- a step before the duration moves the instant, and is counted
-step-moves : (p : Project) (s : State) → inOrder p s ≡ true → s .clock .instant < p .options .duration
-    → (s .clock .instant < step p s .state .clock .instant) × (step p s .state .clock .count ≡ s .clock .count + 1)
+-- a step from the instant of s by so many seconds to the state q: what the clock's definition gives at a moment of a state in order
+pub record Step (p : Project) (s q : State) (from seconds : ℕ) : Type 0 where
+  pub begins : from ≡ s .clock .instant
+  pub before : from < p .options .duration
+  pub ends : q .clock .instant ≡ from + seconds
+  pub some : 0 < seconds
+  pub counted : q .clock .count ≡ s .clock .count + 1
+  pub moment : State
+  pub ordered : inOrder p moment ≡ true
+  pub long : seconds ≡ lengthAt (timesOf p) (triggersOf p) (momentOf p moment) from
+
+-- a step before the duration is one, from any state with the clock of s
+step-moves : (p : Project) (s u : State) → u .clock ≡ s .clock → inOrder p u ≡ true → s .clock .instant < p .options .duration
+    → Step p s (step p u .state) (u .clock .instant) (step p u .length)
 unfolding outcome timesOf
-step-moves p s e l =
-    let k = lawful p .step asking.step s e refl in
-    let m = length-positive (timesOf p) (triggersOf p) (momentOf p s) (s .clock .instant) (accepted-times p (fit p s e)) l in
-    let some : 0 < step p s .length = omega (arith, k .length, m) in
-    (omega (arith, k .instant, some), k .count ∙ rw (lt-ltb 0 (step p s .length) some))
+step-moves p s u same e l =
+    let i : u .clock .instant ≡ s .clock .instant = ap (λ (x : Clock). x .instant) same in
+    let n : u .clock .count ≡ s .clock .count = ap (λ (x : Clock). x .count) same in
+    let k = lawful p .step asking.step u e refl in
+    let m = length-positive (timesOf p) (triggersOf p) (momentOf p u) (u .clock .instant) (accepted-times p (fit p u e)) (omega arith) in
+    let some : 0 < step p u .length = omega (arith, k .length, m) in
+    record {
+      begins = i;
+      before = omega arith;
+      ends = k .instant;
+      some = some;
+      counted = (k .count ∙ rw (lt-ltb 0 (step p u .length) some)) ∙ ap (λ (c : ℕ). c + 1) n;
+      moment = u;
+      ordered = e;
+      long = k .length;
+    }
 
 -- ---- a turn
--- its line: a step, which is counted; or the end, with the count; or the end at a fault
-pub data Printed (s : State) : Turn → Type 0 where
-  stepped : (q : State) (taken from seconds : ℕ) → q .clock .count ≡ s .clock .count + 1 → Printed s (record { state = q; taken = taken; line = Line.step from seconds; last = false })
-  finished : (q : State) → Printed s (endTurn q (Line.finished (s .clock .count)))
-  refused : (q : State) (number : ℕ) → Printed s (endTurn q (Line.refused number))
+-- its line: a step; or at the duration the end, with the count; or the end at a fault
+pub data Printed (p : Project) (s : State) : Turn → Type 0 where
+  stepped : (q : State) (taken from seconds : ℕ) → Step p s q from seconds → Printed p s (record { state = q; taken = taken; line = Line.step from seconds; last = false })
+  finished : (q : State) → p .options .duration ≤ s .clock .instant → Printed p s (endTurn q (Line.finished (s .clock .count)))
+  refused : (q : State) (number : ℕ) → Printed p s (endTurn q (Line.refused number))
 
 pub record Known (p : Project) (s : State) (size : ℕ) (t : Turn) : Type 0 where
   pub ordered : inOrder p (t .state) ≡ true
   pub taken : t .taken ≤ size
   pub moves : t .last ≡ false → s .clock .instant < t .state .clock .instant
   pub stays : t .last ≡ true → t .state .clock ≡ s .clock
-  pub printed : Printed s t
+  pub printed : Printed p s t
 
 module _ {p : Project} (s q : State) (e : inOrder p q ≡ true) (same : q .clock ≡ s .clock) where
   known-step : (size taken : ℕ) → s .clock .instant < p .options .duration → taken ≤ size → Known p s size (stepTurn p q taken)
@@ -73,19 +96,16 @@ module _ {p : Project} (s q : State) (e : inOrder p q ≡ true) (same : q .clock
   known-step size taken l k =
       let closed = tankLinks p q .state in
       let o = tank-links-in-order p q e in
-      let c : closed .clock ≡ s .clock = closed-clock p q ∙ same in
-      let i : closed .clock .instant ≡ s .clock .instant = ap (λ (x : Clock). x .instant) c in
-      let n : closed .clock .count ≡ s .clock .count = ap (λ (x : Clock). x .count) c in
-      let m = step-moves p closed o (omega (arith, i)) in
+      let m = step-moves p s closed (closed-clock p q ∙ same) o l in
       record {
         ordered = step-in-order p closed o;
         taken = k;
-        moves = λ _. omega (arith, i, m .0);
+        moves = λ _. omega (arith, m .begins, m .ends, m .some);
         stays = λ z. absurd (true≢false (sym z));
-        printed = stepped (step p closed .state) taken (closed .clock .instant) (step p closed .length) (omega (arith, n, m .1));
+        printed = stepped (step p closed .state) taken (closed .clock .instant) (step p closed .length) m;
       }
 
-  known-end : (size : ℕ) (end : Line) → Printed s (endTurn q end) → Known p s size (endTurn q end)
+  known-end : (size : ℕ) (end : Line) → Printed p s (endTurn q end) → Known p s size (endTurn q end)
   known-end size end t = record { ordered = e; taken = omega arith; moves = λ z. absurd (true≢false z); stays = λ _. same; printed = t }
 
 known-load : {p : Project} {s : State} (q : State) (e : inOrder p q ≡ true) → q .clock ≡ s .clock → s .clock .instant < p .options .duration
@@ -116,7 +136,7 @@ unfolding turn
 known p s bytes e =
     ltb-ind (λ b. Known p s (length bytes) (cond b (inputTurn p (prepared p s) bytes) (endTurn s (Line.finished (s .clock .count))))) (s .clock .instant) (p .options .duration)
     (λ l. known-input (prepared p s) (prepared-in-order p s e) (prepared-clock p s) l bytes)
-    (λ _. known-end s s e refl (length bytes) (Line.finished (s .clock .count)) (finished s))
+    (λ l. known-end s s e refl (length bytes) (Line.finished (s .clock .count)) (finished s l))
 
 -- ---- what a turn does not look at
 -- a turn that has its load at hand does not look further

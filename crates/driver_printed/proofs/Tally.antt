@@ -1,7 +1,7 @@
 -- The count in the last line is the number of the step lines before it. What carries it: every step that the driver makes is counted. Assumes nothing.
-use Prim.Native.Nat.{ℕ, zero, suc, _+_}
+use Prim.Native.Nat.{ℕ, suc, _+_}
 use mathlib.Core.Path.{_≡_, refl, sym, _∙_}
-use mathlib.Core.Bool.{Bool, true, false, cond, true≢false}
+use mathlib.Core.Bool.{true, false, true≢false}
 use mathlib.Core.List.{List, [], _∷_, _++_}
 use native.Mathlib.Omega.{arith}
 use Rattle.listing.specs.Listing.{Line}
@@ -11,11 +11,11 @@ use Rattle.tables.specs.Tables.{tablesOk}
 use Rattle.calls_sound.proofs.Theorem.{start-in-order}
 use Rattle.demand3.proofs.Lawful.{start-accepted, started}
 use Rattle.driver_turn.specs.Turns.{Turn, turn}
-use Rattle.driver_chunk.specs.Runs.{Run, joined, turns}
+use Rattle.driver_chunk.specs.Runs.{Run, joined}
 use Rattle.driver_chunk.proofs.Turning.{Printed, known}
 use Rattle.driver_printed.specs.Printed.{linesFrom}
 use Rattle.driver_printed.specs.Printed as whole
-use Rattle.driver_printed.proofs.Whole.{run-ends}
+use Rattle.driver_printed.proofs.Whole.{along, run-ends}
 
 -- how many of some lines are steps
 abbrev pub steps : List Line → ℕ
@@ -42,14 +42,14 @@ record Tallied (p : Project) (r : Run) : Type 0 where
   ended : r .over ≡ true → Ended (r .lines)
 
 -- one turn more
-turned : (p : Project) (r : Run) → Tallied p r → r .over ≡ false → (t : Turn) → inOrder p (t .state) ≡ true → Printed (r .state) t → Tallied p (joined r t)
-turned p r h z t o (Printed.stepped q taken from seconds n) =
+turned : (p : Project) (r : Run) → Tallied p r → r .over ≡ false → (t : Turn) → inOrder p (t .state) ≡ true → Printed p (r .state) t → Tallied p (joined r t)
+turned p r h z t o (Printed.stepped q taken from seconds k) =
     record {
       ordered = o;
-      going = λ _. n ∙ rw (h .going z) (sym (steps-more (r .lines) from seconds));
+      going = λ _. k .counted ∙ rw (h .going z) (sym (steps-more (r .lines) from seconds));
       ended = λ w. absurd (true≢false (sym w));
     }
-turned p r h z t o (Printed.finished q) =
+turned p r h z t o (Printed.finished q l) =
     record {
       ordered = o;
       going = λ w. absurd (true≢false w);
@@ -58,16 +58,10 @@ turned p r h z t o (Printed.finished q) =
 turned p r h z t o (Printed.refused q number) =
     record { ordered = o; going = λ w. absurd (true≢false w); ended = λ _. refused (r .lines) number }
 
-tallied : (p : Project) (r : Run) → Tallied p r → (n : ℕ) → Tallied p (turns n p r)
-unfolding turns
-tallied p r h zero = h
-tallied p r h (suc n) = by-over (turns n p r) (tallied p r h n) (turns n p r .over) refl
-  where
-    by-over : (q : Run) → Tallied p q → (b : Bool) → q .over ≡ b → Tallied p (cond b q (joined q (turn p (q .state) (q .left))))
-    by-over q k true e = k
-    by-over q k false e =
-        let t = known p (q .state) (q .left) (k .ordered) in
-        turned p q k e (turn p (q .state) (q .left)) (t .ordered) (t .printed)
+turn-tallied : (p : Project) (r : Run) → Tallied p r → r .over ≡ false → Tallied p (joined r (turn p (r .state) (r .left)))
+turn-tallied p r h z =
+    let t = known p (r .state) (r .left) (h .ordered) in
+    turned p r h z (turn p (r .state) (r .left)) (t .ordered) (t .printed)
 
 -- of any project whose tables are in order, on any bytes behind its image
 pub count-is-steps : (p : Project) → tablesOk p ≡ true → (bytes : List ℕ) → Ended (linesFrom p (whole.started p bytes))
@@ -75,4 +69,4 @@ unfolding linesFrom
 count-is-steps p e bytes =
     let o = start-in-order p (start-accepted p e) in
     let h : Tallied p (whole.started p bytes) = record { ordered = o; going = λ _. started p e .count; ended = λ w. absurd (true≢false (sym w)) } in
-    tallied p (whole.started p bytes) h (suc (p .options .duration)) .ended (run-ends p (whole.started p bytes) o)
+    along p (Tallied p) (turn-tallied p) (whole.started p bytes) h (suc (p .options .duration)) .ended (run-ends p (whole.started p bytes) o)

@@ -2,7 +2,7 @@
 -- run is over after duration + 1 of them. Assumes nothing.
 use Prim.Native.Nat.{ℕ, zero, suc, _+_, _-_, _*_, _≤_, _<_}
 use mathlib.Core.Path.{_≡_, refl, sym, ap, _∙_}
-use mathlib.Core.Bool.{Bool, true, false}
+use mathlib.Core.Bool.{Bool, true, false, cond}
 use mathlib.Core.List.{List, [], _++_, append-assoc}
 use native.Mathlib.Nat.{add-comm, add-suc, add-zero}
 use native.Mathlib.Omega.{arith}
@@ -68,6 +68,16 @@ module _ (p : Project) where
   ends : (n : ℕ) (r : Run) → inOrder p (r .state) ≡ true → p .options .duration - r .state .clock .instant < n → turns n p r .over ≡ true
   ends zero r h l = absurd (omega arith)
   ends (suc n) r h l = ends-from n r h l (ends n)
+
+  -- what holds of a run and of every turn more that it makes, holds of any number of turns
+  pub along : (P : Run → Type 0) → ((r : Run) → P r → r .over ≡ false → P (joined r (turn p (r .state) (r .left)))) → (r : Run) → P r → (n : ℕ) → P (turns n p r)
+  unfolding turns
+  along P step r h zero = h
+  along P step r h (suc n) = by-over (turns n p r) (along P step r h n) (turns n p r .over) refl
+    where
+      by-over : (q : Run) → P q → (b : Bool) → q .over ≡ b → P (cond b q (joined q (turn p (q .state) (q .left))))
+      by-over q k true e = k
+      by-over q k false e = step q k e
 
   pub run-ends : (r : Run) → inOrder p (r .state) ≡ true → turns (suc (p .options .duration)) p r .over ≡ true
   run-ends r h = ends (suc (p .options .duration)) r h (omega arith)

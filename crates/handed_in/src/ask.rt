@@ -2,6 +2,8 @@
 use calls::PremiseAnswer;
 use libc::STDOUT_FILENO;
 use model::*;
+use stops_ahead::StopAnswer;
+use stops_ahead::next_stop;
 
 fn print(n: u32) {
     io::write_all(STDOUT_FILENO, b" ");
@@ -28,6 +30,18 @@ fn print_up_to_load(p: Project, s: State) {
     print(load.number);
 }
 
+// The stop after the state's instant: 0, the number of a refusal, or `none` where the stops are not known beforehand.
+fn print_stop(a: StopAnswer) {
+    match a {
+        StopAnswer::Stop(_) => print(0),
+        StopAnswer::NoMore => print(0),
+        StopAnswer::Unforeseen => {
+            io::write_all(STDOUT_FILENO, b" none");
+        }
+        StopAnswer::Refused(n) => print(n),
+    }
+}
+
 // Closing, the pressure pass, premise 0, and the step by either clock.
 fn print_after_load(p: Project, s: State) {
     let close = calls::update_tank_links(p, s);
@@ -44,5 +58,6 @@ fn print_after_load(p: Project, s: State) {
 pub fn print_numbers(p: Project, s: State) {
     print_up_to_load(p, s);
     print_after_load(p, s);
+    print_stop(next_stop(p, s.clock.instant));
     io::write_all(STDOUT_FILENO, b"\n");
 }

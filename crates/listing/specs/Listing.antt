@@ -18,6 +18,10 @@ stepLine from seconds = decimalText from ++ (32 ∷ (decimalText seconds ++ (10 
 abbrev pub labelled : List ℕ → ℕ → List ℕ
 labelled label n = label ++ (decimalText n ++ (10 ∷ []))
 
+-- a number alone
+abbrev pub numberLine : ℕ → List ℕ
+numberLine n = labelled [] n
+
 -- `steps N`
 abbrev pub stepsLine : ℕ → List ℕ
 stepsLine n = labelled (115 ∷ 116 ∷ 101 ∷ 112 ∷ 115 ∷ 32 ∷ []) n

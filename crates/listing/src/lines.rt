@@ -9,7 +9,7 @@ ghost use mathlib.Core.Path.{_≡_};
 ghost use Prim.Native.Nat.{_+_, _≤_};
 ghost use lib.ListN.{length};
 ghost use Rattle.listing.specs.Text.{put, after};
-ghost use Rattle.listing.specs.Listing.{header, stepLine, labelled, stepsLine, refusedLine};
+ghost use Rattle.listing.specs.Listing.{header, stepLine, labelled, numberLine, stepsLine, refusedLine};
 
 // The first line.
 pub fn put_header(buf: &mut [u8], at: usize) -> usize
@@ -51,6 +51,14 @@ fn put_labelled(buf: &mut [u8], at: usize, label: &[u8], n: u32) -> usize
     let i = copy_text(buf, at, label);
     let j = spell(buf, i, n, b);
     put_byte(buf, j, b'\n')
+}
+
+// The line of a number alone.
+pub fn put_number_line(buf: &mut [u8], at: usize, n: u32) -> usize
+    ensures { λ r. ⌜ r ≡ after (now (buf .entry)) at (numberLine n) ⌝ }
+    ensures { λ _. ⌜ now (buf .exit) ≡ put (now (buf .entry)) at (numberLine n) ⌝ }
+{
+    put_labelled(buf, at, b"", n)
 }
 
 // The last line after n steps.

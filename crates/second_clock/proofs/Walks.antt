@@ -5,8 +5,7 @@ use mathlib.Core.List.{List, [], _∷_, _++_}
 use Prim.Native.Nat.{ℕ, zero, suc, _+_, _-_, _^_, _≤_, _<_}
 use native.Mathlib.Omega.{arith}
 use lib.Dec.{eqb}
-use lib.ListN.{getD, replicate}
-use borrow.Author.Tests.{ne-eqb, lt-ltb}
+use borrow.Author.Tests.{ne-eqb}
 use Rattle.clock.specs.Steps.{clockTime}
 use Rattle.clock.specs.Triggers.{Trigger, atTime, atClock, atLevel, untimed}
 use Rattle.clock.specs.declared.length.Times.{Times}
@@ -17,14 +16,15 @@ use Rattle.model.specs.Loops.{through}
 use Rattle.model.specs.declared.control.Control.{Control}
 use Rattle.model.specs.declared.project.Project.{Project}
 use Rattle.model.specs.declared.state.State.{State}
-use Rattle.model.proofs.Pointwise.{each-at}
 use Rattle.tables.specs.Fit.{TablesFit}
 use Rattle.tables.proofs.Fits.{tables-fit}
 use Rattle.judge.specs.Judgement.{inOrder}
 use Rattle.calls_sound.proofs.Theorem.{tables-of, state-of}
 use Rattle.simulation.specs.Steps.{Level, listed, timesOf, triggersOf}
-use Rattle.second_clock.specs.declared.walk.Awaited.{Awaited}
-use Rattle.second_clock.specs.Awaited.{NEVER, timeOf, clockOf, triggerIn, triggersIn, notes, awaitedBy, anyCalls, stopsThen, stopsBy, TimesFit}
+use Rattle.awaited.specs.Awaited.{NEVER, timeOf, clockOf, triggerIn, triggersIn, notes, awaitedBy}
+use Rattle.awaited.specs.declared.Awaited.{Awaited}
+use Rattle.awaited.proofs.Notes.{notes-at}
+use Rattle.second_clock.specs.Walks.{anyCalls, stopsThen, stopsBy, TimesFit}
 
 -- ---- what a control waits for
 or-false : (b : Bool) → (b || false) ≡ b
@@ -41,12 +41,6 @@ called-one (atTime s) u clock a b = rw (ne-eqb clock NEVER (λ e. omega arith)) 
 called-one (atClock s) u clock a b = rw (ne-eqb u NEVER (λ e. omega arith))
 called-one (atLevel l) u clock a b = rw (ne-eqb u NEVER (λ e. omega arith), ne-eqb clock NEVER (λ e. omega arith))
 called-one untimed u clock a b = rw (ne-eqb u NEVER (λ e. omega arith), ne-eqb clock NEVER (λ e. omega arith))
-
--- the list that is made before the walk has it, by the control's number
-notes-at : (of : Trigger Level → ℕ) (controls : List Control) (n i : ℕ) → n ≤ 64 → i < n → getD (notes of controls n) i 0 ≡ of (triggerIn controls i)
-unfolding notes
-notes-at of controls n i m l =
-    each-at 0 n (λ k x. of (triggerIn controls k)) (replicate 64 NEVER) m i ∙ rw (lt-ltb i n l)
 
 -- ---- the controls
 called-last : (o : Times) (ts : List (Trigger Level)) (t : Trigger Level) (u : ℕ) → calledAt o (ts ++ (t ∷ [])) u ≡ (calledAt o ts u || callsAt o u t)

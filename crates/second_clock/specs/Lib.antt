@@ -1,2 +1,2 @@
 pub mod SecondClock
-pub mod Awaited
+pub mod Walks

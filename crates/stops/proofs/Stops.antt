@@ -146,3 +146,12 @@ module _ {L : Type 0} (o : Times) (ts : List (Trigger L)) (ok : Accepted o ts) (
       by (inr (inr (inr (inr (inl q))))) = inr q
       by (inr (inr (inr (inr (inr h))))) =
           inl (past (or-left (calledAt o ts (t + n)) _ (any-called o m t n p short ts (ok .clocks) (still .level) h)))
+
+  -- and so at a stop, where the hydraulic timestep is at least the report's or the pattern's
+  pub hits-stop : (o .report ≤ o .hydraulic) ⊎ (o .pattern ≤ o .hydraulic) → NoTankTime ts m → t < o .duration → stopsAt o ts (t + n) ≡ true
+  hits-stop hydraulic still l = by hydraulic (hits still l)
+    where
+      by : (o .report ≤ o .hydraulic) ⊎ (o .pattern ≤ o .hydraulic) → (stopsAt o ts (t + n) ≡ true) ⊎ (n ≡ o .hydraulic) → stopsAt o ts (t + n) ≡ true
+      by h (inl q) = q
+      by (inl y) (inr q) = at-report (omega (arith, to-report))
+      by (inr y) (inr q) = at-pattern (omega (arith, to-pattern))

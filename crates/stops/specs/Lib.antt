@@ -1,3 +1,4 @@
 pub mod Stops
 pub mod Walk
+pub mod Exact
 pub mod Tankless

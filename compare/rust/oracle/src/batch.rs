@@ -5,10 +5,11 @@ use std::cell::RefCell;
 use std::io::{self, ErrorKind, Read, Write};
 use std::panic::{self, AssertUnwindSafe};
 
-use crate::{driver, replay};
+use crate::{driver, replay, timetable};
 
 const REPLAY: u32 = 1;
 const DRIVER: u32 = 2;
+const TIMETABLE: u32 = 3;
 
 thread_local! {
     /// What the last panic said and where.
@@ -34,6 +35,7 @@ fn answer(mode: u32, bytes: &[u8]) -> io::Result<Vec<u8>> {
     let run = panic::catch_unwind(AssertUnwindSafe(|| match mode {
         REPLAY => replay::replay(bytes, &mut answer),
         DRIVER => driver::drive(bytes, &mut answer),
+        TIMETABLE => timetable::tabulate(bytes, &mut answer),
         _ => panic!("no such mode: {mode}"),
     }));
     match run {

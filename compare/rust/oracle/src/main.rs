@@ -1,4 +1,4 @@
-//! The reference's answers on our inputs: `oracle replay`, `oracle driver` and `oracle batch`.
+//! The reference's answers on our inputs: `oracle replay`, `oracle driver`, `oracle timetable` and `oracle batch`.
 
 mod batch;
 mod driver;
@@ -10,6 +10,7 @@ mod progress;
 mod project;
 mod replay;
 mod second_clock;
+mod timetable;
 
 use std::io::{self, BufWriter, Read, Write};
 use std::process::ExitCode;
@@ -19,7 +20,7 @@ fn main() -> ExitCode {
     match run(&mode) {
         Ok(true) => ExitCode::SUCCESS,
         Ok(false) => {
-            eprintln!("usage: oracle replay | driver | batch, with the input on standard input");
+            eprintln!("usage: oracle replay | driver | timetable | batch, with the input on standard input");
             ExitCode::from(2)
         }
         Err(error) => {
@@ -35,6 +36,7 @@ fn run(mode: &str) -> io::Result<bool> {
     match mode {
         "replay" => replay::replay(&standard_input()?, &mut out)?,
         "driver" => driver::drive(&standard_input()?, &mut out)?,
+        "timetable" => timetable::tabulate(&standard_input()?, &mut out)?,
         "batch" => batch::run(&mut io::stdin().lock(), &mut out)?,
         _ => return Ok(false),
     }

@@ -13,11 +13,11 @@ pub fn serves(project: &Project) -> bool {
     !has_tanks(project) && !is_on_fast_path(project) && !has_long_timesteps(project)
 }
 
-fn has_tanks(project: &Project) -> bool {
+pub fn has_tanks(project: &Project) -> bool {
     project.nodes.iter().any(|node| matches!(node, Node::Tank(_)))
 }
 
-fn is_on_fast_path(project: &Project) -> bool {
+pub fn is_on_fast_path(project: &Project) -> bool {
     project.options.skip_timesteps && project.controls.is_empty() && !has_tanks(project)
 }
 

@@ -3,7 +3,7 @@ use mathlib.Core.Path.{sym, _∙_, subst}
 use borrow.Author.Tests.{not-true, not-false}
 use Rattle.tables.proofs.Fits.{tables-fit}
 use Rattle.calls_sound.proofs.Theorem.{tables-of}
-use Rattle.second_clock.specs.Awaited.{TimesFit}
+use Rattle.second_clock.specs.Walks.{TimesFit}
 use Rattle.second_clock.specs.SecondClock.{secondLength, second}
 use Rattle.second_clock.proofs.Walks.{times-fit, walk-of, room}
 use borrow.Author.Needs.{needs}

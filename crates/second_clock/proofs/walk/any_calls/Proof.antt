@@ -3,7 +3,7 @@ use Prim.Native.Nat.{_-_}
 use mathlib.Core.Path.{refl}
 use native.Mathlib.Omega.{arith}
 use Rattle.model.proofs.Loops.{Ran, begun, turned, ended}
-use Rattle.second_clock.specs.Awaited.{orCalls, anyCalls}
+use Rattle.second_clock.specs.Walks.{orCalls, anyCalls}
 use borrow.Author.Needs.{needs}
 use Rattle.second_clock.proofs.walk.any_calls.Statement.{statement}
 use Rattle.second_clock.proofs.walk.any_calls.Tie as tie

@@ -2,7 +2,7 @@
 use Prim.Native.Nat.{_-_}
 use mathlib.Core.Path.{_∙_}
 use native.Mathlib.Omega.{arith}
-use Rattle.second_clock.specs.Awaited.{stopsBy}
+use Rattle.second_clock.specs.Walks.{stopsBy}
 use Rattle.second_clock.proofs.Walks.{walk-by-is, Going, going-begun, going-stops, going-turned, going-ended, stop-told}
 use borrow.Author.Needs.{needs}
 use Rattle.second_clock.proofs.walk.walk.Statement.{statement}

@@ -1,12 +1,12 @@
--- `second_clock::walk::awaited_by` meets its contract: each turn notes what one control waits for, in both lists. Assumes nothing.
+-- `awaited::awaited_by` meets its contract: each turn notes what one control waits for, in both lists. Assumes nothing.
 use Prim.Native.Nat.{_-_}
 use mathlib.Core.Path.{refl}
 use native.Mathlib.Omega.{arith}
 use Rattle.model.proofs.Loops.{Ran, begun, turned, ended}
-use Rattle.second_clock.specs.Awaited.{timeOf, clockOf, noted, notes}
+use Rattle.awaited.specs.Awaited.{timeOf, clockOf, noted, notes}
 use borrow.Author.Needs.{needs}
-use Rattle.second_clock.proofs.walk.awaited_by.Statement.{statement}
-use Rattle.second_clock.proofs.walk.awaited_by.Tie as tie
+use Rattle.awaited.proofs.awaited_by.Statement.{statement}
+use Rattle.awaited.proofs.awaited_by.Tie as tie
 
 abbrev Inv-loop : tie.InvT-loop
 Inv-loop count controls times₀ clocks₀ i₀ times clocks i = Ran count (noted timeOf controls) times₀ i times × Ran count (noted clockOf controls) clocks₀ i clocks
