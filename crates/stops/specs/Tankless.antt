@@ -1,5 +1,6 @@
 -- Needs no belief: what the theorems of the walk (proofs/Walk.antt) and of the stops (proofs/Exact.antt) ask of the times, of a moment and of a
--- machine, and which the prover sees met where the second clock serves and where the stops are foreseen (second_clock/proofs, demand3/proofs).
+-- machine, and which the prover sees met where the second clock serves and where the stops are foreseen (second_clock/proofs, stops_ahead/proofs,
+-- demand3/proofs).
 use Prim.Native.Nat.{_≤_, _<_}
 use mathlib.Core.Path.{_≡_}
 use mathlib.Core.Bool.{false}
