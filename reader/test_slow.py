@@ -22,7 +22,8 @@ from reader.failure import DIED, Failure  # noqa: E402
 
 import image_text  # noqa: E402
 
-REPLAY = f"""#!{sys.executable} -S
+# How a stand-in begins, and how it takes its image.
+STAND_IN = f"""#!{sys.executable} -S
 import sys
 sys.dont_write_bytecode = True
 sys.path.append({str(ROOT / "tools")!r})
@@ -30,14 +31,27 @@ sys.path.append({str(ROOT / "tools")!r})
 import os, pathlib, signal, struct, time
 import image_decode
 
-beside = pathlib.Path(__file__).parent
-log = (beside / "calls").open("a", buffering=1)
-(beside / "process").write_text(str(os.getpid()))
-
 
 def take(count):
     data = sys.stdin.buffer.read(4 * count)
     return struct.unpack_from(f"<{len(data) // 4}I", data)
+
+
+'''
+TAKES_IMAGE = '''
+(count,) = take(1) or (0,)
+image = take(count) if count <= 16384 else ()
+tables = image_decode.decode(image if len(image) == count else ())
+if tables.fault:
+    print(f"refused {tables.number}")
+    sys.exit()
+options = tables.options
+'''
+
+REPLAY = STAND_IN + '''
+beside = pathlib.Path(__file__).parent
+log = (beside / "calls").open("a", buffering=1)
+(beside / "process").write_text(str(os.getpid()))
 
 
 def say(answer):
@@ -72,15 +86,8 @@ def answer(code):
     if code == 8:
         return f"slow {walk()}" if serves else "slow refused=14"
     return {1: "patterns ok", 2: "controls ok", 4: "close ok"}[code]
-
-
-(count,) = take(1) or (0,)
-image = take(count) if count <= 16384 else ()
-tables = image_decode.decode(image if len(image) == count else ())
-if tables.fault:
-    print(f"refused {tables.number}")
-    sys.exit()
-options, instant, moves = tables.options, 0, 0
+''' + TAKES_IMAGE + '''
+instant = moves = 0
 hydraulic = options["hydraulic"] or 3600
 tanks = [node for node in tables.nodes if node["kind"] == "tank"]
 fast = options["flags"] & 1 and not tables.controls
@@ -105,6 +112,31 @@ pipe MAIN start=LAKE end=MILL diameter=1.0
 """
 TANK = "tank HILL elevation=60.0 initial=1.0 least=0.0 greatest=2.0 diameter=9.0\n"
 DIES = "os.kill(os.getpid(), signal.SIGSEGV)"
+FAST = "on the fast path (skip, no controls, no tanks)"
+
+# Four controls that are due at once, a day after the start, and what is told of them: two of a sort in image order;
+# those of the clock behind those of the run.
+AT_ONCE = """
+control clock seconds=1:00:00 link=MAIN status=Open
+control time seconds=86400 link=MAIN status=Open
+control time seconds=86400 link=MAIN setting=1.0
+control clock seconds=1:00:00 link=MAIN setting=1.0
+"""
+AT_ONCE_OPTIONS = {
+    "duration": 86_400,
+    "hydraulic": 7_200,
+    "report": 1_800,
+    "pattern_timestep": 2_700,
+    "start_clock": 3_600,
+}
+TOLD_AT_ONCE = "; ".join(
+    [
+        "control 2: at 24:00:00 of the run",
+        "control 3: at 24:00:00 of the run",
+        "control 1: at 01:00:00",
+        "control 4: at 01:00:00",
+    ]
+)
 
 
 def text(controls="", nodes=NODES, **options):
@@ -236,7 +268,23 @@ class Parted(Walked):
         self.assert_died(died, AT="8", DOES="print('slow 1', end='', flush=True); " + DIES)
 
 
-class Reasons(Walked):
+class SteppedOtherwise:
+    """The reasons that both the second clock and the stops beforehand have; `reason` tells one."""
+
+    def test_tanks(self):
+        """The first is named, whatever else stands against it."""
+        clock = "control clock seconds=3600 link=MAIN status=Open"
+        self.assertEqual(self.reason(text(clock, nodes=TANK + NODES)), "with tanks: HILL is one")
+        two = f"reservoir LAKE elevation=1.0\n{TANK}{TANK.replace('HILL', 'POND')}"
+        for hydraulic in (1, 90_000):
+            self.assertEqual(self.reason(text(nodes=two, flags="skip", hydraulic=hydraulic)), "with tanks: HILL is one")
+
+    def test_the_fast_path(self):
+        self.assertEqual(self.reason(text(flags="skip+PDA")), FAST)
+        self.assertEqual(self.reason(text(flags="skip", hydraulic=1)), FAST)
+
+
+class Reasons(SteppedOtherwise, Walked):
     def reason(self, said):
         """The reason, and that the stand-in refuses too."""
         self.assertEqual(self.listing(said), ["refused 14"])
@@ -244,16 +292,6 @@ class Reasons(Walked):
         reason = slow.reason(works_of(said).network)
         self.assertTrue(reason.startswith(begin), reason)
         return reason.removeprefix(begin)
-
-    def test_tanks(self):
-        """The first is named, whatever else stands against it."""
-        clock = "control clock seconds=3600 link=MAIN status=Open"
-        self.assertEqual(self.reason(text(clock, nodes=TANK + NODES)), "with tanks: HILL is one")
-        two = f"reservoir LAKE elevation=1.0\n{TANK}{TANK.replace('HILL', 'POND')}"
-        self.assertEqual(self.reason(text(nodes=two, flags="skip", hydraulic=90_000)), "with tanks: HILL is one")
-
-    def test_the_fast_path(self):
-        self.assertEqual(self.reason(text(flags="skip+PDA")), "on the fast path (skip, no controls, no tanks)")
 
     def test_every_timestep_above_a_day(self):
         above = text(hydraulic=86_401, report=90_000, pattern_timestep=86_401)
@@ -290,19 +328,8 @@ class Causes(unittest.TestCase):
             self.assertEqual(self.causes(*step, controls), cause)
 
     def test_all_at_once_in_document_02s_order(self):
-        """Two of a sort in image order; those of the clock behind those of the run."""
-        controls = [
-            "control clock seconds=1:00:00 link=MAIN status=Open",
-            "control time seconds=86400 link=MAIN status=Open",
-            "control time seconds=86400 link=MAIN setting=1.0",
-            "control clock seconds=1:00:00 link=MAIN setting=1.0",
-        ]
-        options = {"duration": 86_400, "hydraulic": 7_200, "report": 1_800, "pattern_timestep": 2_700}
-        told = self.causes(79_200, 7_200, "\n".join(controls), **options, start_clock=3_600)
-        timesteps = "report timestep; pattern timestep; hydraulic timestep"
-        run = "at 24:00:00 of the run"
-        by = f"control 2: {run}; control 3: {run}; control 1: at 01:00:00; control 4: at 01:00:00"
-        self.assertEqual(told, f"{timesteps}; {by}; duration")
+        told = self.causes(79_200, 7_200, AT_ONCE, **AT_ONCE_OPTIONS)
+        self.assertEqual(told, f"report timestep; pattern timestep; hydraulic timestep; {TOLD_AT_ONCE}; duration")
 
     def test_a_clock_control_past_midnight(self):
         """At 22:00 of the first day; the control is due at 1:30, and not 1:30:00 into the run."""
@@ -329,12 +356,16 @@ class Causes(unittest.TestCase):
         self.assertEqual(caught.exception.status, DIED)
 
 
-class Commands(test_command.Copied):
-    stand_ins = {**test_command.Copied.stand_ins, "replay": REPLAY}
+class Own(test_command.Copied):
+    """The command, and works of one's own."""
 
     def write(self, said, name="own.txt"):
         (self.place / name).write_text("# Own: a lake, a mill and a pipe\n" + said)
         return name
+
+
+class Commands(Own):
+    stand_ins = {**test_command.Copied.stand_ins, "replay": REPLAY}
 
     def beside(self, name):
         """What the stand-in has written."""

@@ -14,28 +14,16 @@ import unittest
 
 sys.dont_write_bytecode = True
 
-from reader import ROOT, programs, stops, test_command, works  # noqa: E402
+from reader import programs, stops, test_command, test_slow, works  # noqa: E402
 from reader.failure import DIED, Failure  # noqa: E402
-from reader.test_slow import NODES, TANK, load, text, works_of  # noqa: E402
+from reader.test_slow import DIES, FAST, load, text, works_of  # noqa: E402
 
-TIMETABLE = f"""#!{sys.executable} -S
-import sys
-sys.dont_write_bytecode = True
-sys.path.append({str(ROOT / "tools")!r})
-""" + '''
-import os, signal, struct
-import image_decode
-
+TIMETABLE = test_slow.STAND_IN + '''
 signal.signal(signal.SIGPIPE, signal.SIG_DFL)  # it ends as the program does, without a word of Python's
 if "PRINTS" in os.environ:
     print(os.environ["PRINTS"], end="", flush=True)
     exec(os.environ.get("DOES", ""))
     sys.exit()
-
-
-def take(count):
-    data = sys.stdin.buffer.read(4 * count)
-    return struct.unpack_from(f"<{len(data) // 4}I", data)
 
 
 def foreseen():
@@ -50,15 +38,7 @@ def stops(second):
     due = {4: second, 5: (second + options["start clock"]) % 86400}
     at_controls = [due.get(control["condition"]) == control["node or seconds"] for control in tables.controls]
     return 0 in (second % report, second % pattern) or any(at_controls) or second == options["duration"]
-
-
-(count,) = take(1) or (0,)
-image = take(count) if count <= 16384 else ()
-tables = image_decode.decode(image if len(image) == count else ())
-if tables.fault:
-    print(f"refused {tables.number}")
-    sys.exit()
-options = tables.options
+''' + test_slow.TAKES_IMAGE + '''
 report, pattern = options["report"], options["pattern timestep"]
 if not foreseen():
     print("none")
@@ -67,9 +47,7 @@ instants = [second for second in range(1, options["duration"] + 1) if stops(seco
 print(*instants, f"steps {len(instants)}", sep="\\n")
 '''
 
-DIES = "os.kill(os.getpid(), signal.SIGSEGV)"
 BEGIN = "none: no stops are known beforehand for works "
-FAST = "on the fast path (skip, no controls, no tanks)"
 NO_REASON = "none: and reader/stops.py, which has the reasons, finds no reason"
 
 # Of every works of the stock but coldash, which has stops, and blank, which is refused.
@@ -190,24 +168,13 @@ class Answered(unittest.TestCase):
             return [line.decode() for line in programs.lines(timetable, works_of(said, behind).data)]
 
 
-class Reasons(Answered):
+class Reasons(test_slow.SteppedOtherwise, Answered):
     def reason(self, said):
         """The reason, and that the stand-in has no stops either."""
         self.assertEqual(self.answer(said), ["none"])
         reason = stops.reason(works_of(said).network)
         self.assertTrue(reason.startswith(BEGIN), reason)
         return reason.removeprefix(BEGIN)
-
-    def test_tanks(self):
-        """The first is named, whatever else stands against it."""
-        clock = "control clock seconds=3600 link=MAIN status=Open"
-        self.assertEqual(self.reason(text(clock, nodes=TANK + NODES)), "with tanks: HILL is one")
-        two = f"reservoir LAKE elevation=1.0\n{TANK}{TANK.replace('HILL', 'POND')}"
-        self.assertEqual(self.reason(text(nodes=two, flags="skip", hydraulic=1)), "with tanks: HILL is one")
-
-    def test_the_fast_path(self):
-        self.assertEqual(self.reason(text(flags="skip+PDA")), FAST)
-        self.assertEqual(self.reason(text(flags="skip", hydraulic=1)), FAST)
 
     def test_a_hydraulic_timestep_below_report_and_pattern(self):
         told = "with a hydraulic timestep in force of {} s, below both report ({} s) and pattern timestep ({} s)"
@@ -250,18 +217,8 @@ class Causes(Answered):
             self.assertEqual(self.causes(instant, controls), cause)
 
     def test_all_at_once(self):
-        """Two of a sort in image order; those of the clock behind those of the run."""
-        controls = [
-            "control clock seconds=1:00:00 link=MAIN status=Open",
-            "control time seconds=86400 link=MAIN status=Open",
-            "control time seconds=86400 link=MAIN setting=1.0",
-            "control clock seconds=1:00:00 link=MAIN setting=1.0",
-        ]
-        options = {"duration": 86_400, "hydraulic": 7_200, "report": 1_800, "pattern_timestep": 2_700}
-        run, day = "at 24:00:00 of the run", "at 01:00:00"
-        by = f"control 2: {run}; control 3: {run}; control 1: {day}; control 4: {day}"
-        told = self.causes(86_400, "\n".join(controls), **options, start_clock=3_600)
-        self.assertEqual(told, f"report timestep; pattern timestep; {by}; duration")
+        told = self.causes(86_400, test_slow.AT_ONCE, **test_slow.AT_ONCE_OPTIONS)
+        self.assertEqual(told, f"report timestep; pattern timestep; {test_slow.TOLD_AT_ONCE}; duration")
 
     def test_the_hydraulic_timestep_is_none(self):
         with self.assertRaisesRegex(Failure, "^timetable stops at 5000, and nothing calls for a stop there$") as caught:
@@ -277,12 +234,8 @@ class Causes(Answered):
         self.assertEqual([*map(str, called), f"steps {len(called)}"], self.answer(said))
 
 
-class Commands(test_command.Copied):
+class Commands(test_slow.Own):
     stand_ins = {**test_command.Copied.stand_ins, "timetable": TIMETABLE}
-
-    def write(self, said, name="own.txt"):
-        (self.place / name).write_text("# Own: a lake, a mill and a pipe\n" + said)
-        return name
 
     def assert_told(self, status, lines, *arguments, stdin=b"", **environment):
         """The status and the lines on standard output; answers the last one on standard error."""

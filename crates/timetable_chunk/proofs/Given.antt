@@ -14,7 +14,8 @@ use Rattle.tables.specs.Tables.{tablesOk}
 use Rattle.stops_ahead.specs.Foreseen.{stopsForeseen, stopsOf, nextStops, stopsGiven, fronted, stopsWritten}
 use Rattle.stops_ahead.specs.declared.next.StopsAnswer.the-variants.{Stops, Unforeseen, Refused}
 use Rattle.timetable_chunk.specs.Timetable.{linesText, noneLine}
-use Rattle.timetable_chunk.specs.Chunks.{lastOf, counted, lastChunk, givenText, givenChunk, Within, answerText, answerChunk, chunkText, chunkOf}
+use Rattle.timetable_chunk.specs.Answers.{Within, answerText, answerChunk}
+use Rattle.timetable_chunk.specs.Chunks.{lastOf, counted, lastChunk, givenText, givenChunk, chunkText, chunkOf}
 use Rattle.timetable_chunk.specs.declared.Chunk.{Chunk}
 
 -- ---- one line, with room

@@ -1,6 +1,6 @@
 -- A timetable in chunks of 4,096 stops, as the program makes it: no contract can say that `timetable_io` does, but its loop is short enough to read beside
 -- `Chunked`. `chunks-are` (proofs/Whole.antt) shows that the texts of the chunks, one after the other, are the timetable.
-use Prim.Native.Nat.{ℕ, _+_, _^_, _≤_}
+use Prim.Native.Nat.{ℕ, _+_, _^_}
 use mathlib.Core.Path.{_≡_}
 use mathlib.Core.Bool.{true, false, cond}
 use mathlib.Core.List.{List, [], _∷_, _++_}
@@ -10,8 +10,6 @@ use Rattle.listing.specs.Listing.{stepsLine, refusedLine}
 use Rattle.model.specs.declared.project.Project.{Project}
 use Rattle.tables.specs.Tables.{tablesOk}
 use Rattle.stops_ahead.specs.Foreseen.{stopsForeseen, stopsOf}
-use Rattle.stops_ahead.specs.declared.next.StopsAnswer.{StopsAnswer}
-use Rattle.stops_ahead.specs.declared.next.StopsAnswer.the-variants.{Stops, Unforeseen, Refused}
 use Rattle.timetable_chunk.specs.declared.Chunk.{Chunk}
 use Rattle.timetable_chunk.specs.Timetable.{linesText, noneLine}
 
@@ -37,23 +35,6 @@ abbrev pub givenChunk : List ℕ → ℕ → ℕ → Chunk
 givenChunk [] instant count = lastChunk (length (stepsLine count)) instant count
 givenChunk (u ∷ us) instant count =
     record { written = length (linesText (u ∷ us)); instant = lastOf u us; count = counted count (length (u ∷ us)); over = false }
-
--- the same by an answer for a list of instants
-abbrev pub answerText : StopsAnswer → List ℕ → ℕ → List ℕ
-answerText (Stops n) us count = givenText (take n us) count
-answerText Unforeseen us count = noneLine
-answerText (Refused n) us count = refusedLine n
-
-abbrev pub answerChunk : StopsAnswer → List ℕ → ℕ → ℕ → Chunk
-answerChunk (Stops n) us instant count = givenChunk (take n us) instant count
-answerChunk Unforeseen us instant count = lastChunk (length noneLine) instant count
-answerChunk (Refused n) us instant count = lastChunk (length (refusedLine n)) instant count
-
--- no more stops than the list has
-abbrev pub Within : StopsAnswer → List ℕ → Type 0
-Within (Stops n) us = n ≤ length us
-Within Unforeseen us = Unit {0}
-Within (Refused n) us = Unit {0}
 
 -- the stops of a chunk
 abbrev pub given : Project → ℕ → List ℕ

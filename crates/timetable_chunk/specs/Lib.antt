@@ -1,2 +1,3 @@
 pub mod Timetable
 pub mod Chunks
+pub mod Answers

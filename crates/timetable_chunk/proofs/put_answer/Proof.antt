@@ -7,7 +7,7 @@ use lib.Seq.{length-take-le}
 use Rattle.listing.specs.Listing.{Line, refusedLine}
 use Rattle.listing.proofs.Listing.{line-short}
 use Rattle.stops_ahead.specs.declared.next.StopsAnswer.{StopsAnswer}
-use Rattle.timetable_chunk.specs.Chunks.{Within}
+use Rattle.timetable_chunk.specs.Answers.{Within}
 use Rattle.timetable_chunk.specs.Timetable.{noneLine}
 use Rattle.timetable_chunk.proofs.Given.{line-put}
 use borrow.Author.Needs.{needs}
