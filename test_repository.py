@@ -103,13 +103,13 @@ class StoredCases(unittest.TestCase):
         self.assertEqual((CRATES / "stops_asked" / "stdout").read_text(), expected)
 
     def test_replay_cases_of_the_stock(self):
-        """The last inputs are works walked by the second clock; its answers are their listings' lengths, or 14."""
+        """Works walked by the second clock stand one behind the other; the answers are their listings' lengths, or 14."""
         made, folder = vectors.stock(), CRATES / "replay_cases"
-        stored = sorted((folder / "data").iterdir())[-len(made) :]
-        self.assertEqual([path.read_bytes() for path in stored], made)
-        answers = (folder / "stdout").read_text().partition(f"{stored[0].name}\n")[2]
-        answered = re.split(r"^case\d+\n", answers.rpartition(f"{int(stored[-1].name[4:]) + 1} cases\n")[0], flags=re.M)
-        vectors.check_stock([answer.encode() for answer in answered])
+        inputs = [path.read_bytes() for path in sorted((folder / "data").iterdir())]
+        walked = slice(inputs.index(made[0]), inputs.index(made[-1]) + 1)
+        self.assertEqual(inputs[walked], made)
+        answers = re.split(r"^case\d+\n", (folder / "stdout").read_text(), flags=re.M)[1:]
+        vectors.check_stock([answer.encode() for answer in answers[walked]])
 
 
 class Sources(unittest.TestCase):

@@ -1,19 +1,29 @@
 #!/usr/bin/env python3
-"""The input of the program `handed_in`: tables and states changed one word at a time, and the numbers that document 01 gives.
+"""The input of the program `handed_in`: tables and states changed one word at a time, and the numbers that the documents give.
 
   handed_in.py --out FOLDER    writes FOLDER/stdin and FOLDER/stdout
 
-The project is the good image of images.py. A change that breaks number 10 has every call give 10 (the start too where it is the
-tables that break); any other has them give 0, but 7 for the load, which has one word, 9 for premise 0 where there is none, 14 for
-the second clock and `none` for the stops beforehand, since the project has a tank. The stops go by the tables alone.
+The first project is the good image of images.py. A change that breaks number 10 has every call give 10 (the start too where it is
+the tables that break); any other has them give 0, but 7 for the load, which has one word, 9 for premise 0 where there is none, 14
+for the second clock and `none` for the stops beforehand, since the project has a tank. The stops go by the tables alone.
+
+The last two numbers of a line are those of laying out the table of the tanks' links, which goes by the tables alone too, and of
+closing by such a table: the one that the image gives, with the change made to it. That is 10 also where it is not the table of the
+changed records. The other projects are there for it; before the changes of each stands its table, as it is laid out.
 """
 import argparse
+import collections
+import itertools
 import math
 import pathlib
 import struct
+import sys
 
 import images
 from images import LAST_OF_DAY, LONGEST, above, below, number
+
+sys.path.insert(0, str(pathlib.Path(__file__).resolve().parent / "rust"))
+from closing import laid_out  # noqa: E402
 
 NOT_FINITE = [math.nan, math.inf, -math.inf]
 LAST_WORD = 2**32 - 1
@@ -32,6 +42,8 @@ DEMAND_PATTERNS = range(37, 41)
 (START, END, LINK_STATUS, SIZE, LINK_SETTING) = range(41, 46)
 (CONTROL_NODE, TARGET, SECONDS, CONTROL_LINK, CONTROL_STATUS, CONTROL_SETTING) = range(46, 52)
 (PREMISE_TARGET, PREMISE_NUMBER, PREMISE_STATUS, PREMISE_TIME) = range(52, 56)
+# Of the table of the tanks' links; EXCHANGE has another entry's index for its value.
+(BEGIN, MIDDLE, ENTRY, EXCHANGE) = range(56, 60)
 
 # --- The records of the good image, by index ---
 
@@ -47,9 +59,15 @@ ALL_PREMISES = range(3)
 # --- The numbers that the calls give ---
 
 
-def good(premise=0):
-    return [0, 0, 0, 7, 0, 0, premise, 0, 14, "none"]
+def good(premise=0, second_clock=14, stop="none"):
+    return [0, 0, 0, 7, 0, 0, premise, 0, second_clock, stop]
 
+
+# Without a tank the second clock serves the project, and the stops are known beforehand.
+TANKLESS = good(second_clock=0, stop=0)
+
+# The calls whose number tells whether the tables break 10, and whether tables or state do.
+STARTING, CLOSING = 0, 4
 
 BROKEN_STATE = [0] + [10] * 8 + ["none"]
 BROKEN_TABLES = [10] * 10
@@ -307,16 +325,224 @@ def changes():
     return [change for group in GROUPS for change in group()]
 
 
+# --- The table of the tanks' links: document 02, R-8 ---
+
+# The words of each part: the places where the tanks begin, their middles and the link numbers.
+SIZES = (257, 256, 768)
+# What each word is before the table is laid out, and how many of each part the program prints.
+MARKER = LAST_WORD
+SHOWN = 16
+# A number that no link has.
+NO_LINK = 384
+
+
+def lent(tanks, ends):
+    """The table in words that are all the marker before."""
+    return [part + [MARKER] * (size - len(part)) for part, size in zip(laid_out(tanks, ends), SIZES)]
+
+
+def is_laid_out(table, tanks, ends):
+    """Whether the table is the one of these records. What lies past their places and entries is not judged."""
+    return all(given[: len(part)] == part for given, part in zip(table, laid_out(tanks, ends)))
+
+
+def changed_table(table, what, index, low):
+    begins, middles, links = table
+    if what == BEGIN:
+        begins[index] = low
+    elif what == MIDDLE:
+        middles[index] = low
+    elif what == ENTRY:
+        links[index] = low
+    elif what == EXCHANGE:
+        links[index], links[low] = links[low], links[index]
+    return table
+
+
+def changed_records(works, what, index, low):
+    """The tanks and the links' ends after a change that breaks nothing. No change makes another kind of a node."""
+    tanks, ends = works.tanks, list(works.ends)
+    if what == NODES:
+        tanks = [tank for tank in tanks if tank < low]
+    elif what == LINKS:
+        ends = ends[:low]
+    elif what in (START, END) and index < len(ends):
+        start, end = ends[index]
+        ends[index] = (low, end) if what == START else (start, low)
+    return tanks, ends
+
+
+def table_numbers(works, what, index, value, numbers):
+    """What laying out and closing by the table give."""
+    if numbers[CLOSING] == 10:
+        return [numbers[STARTING], 10]
+    table = changed_table(lent(works.tanks, works.ends), what, index, value[0])
+    return [0, 0 if is_laid_out(table, *changed_records(works, what, index, value[0])) else 10]
+
+
+# --- The changes of the table, each with what the other calls give ---
+
+
+def place_changes(works):
+    """Every place and every middle: one more, one less, none, and the largest word."""
+    for what, part in zip((BEGIN, MIDDLE), laid_out(works.tanks, works.ends)):
+        for index, place in enumerate(part):
+            for new in sorted({place + 1, max(place - 1, 0), 0, LAST_WORD}):
+                yield what, index, whole(new), works.good
+
+
+def entry_changes(works):
+    """Every link number: another link's, one that no link has, and the largest word."""
+    *_, links = laid_out(works.tanks, works.ends)
+    for index, link in enumerate(links):
+        for new in ((link + 1) % len(works.ends), NO_LINK, LAST_WORD):
+            yield ENTRY, index, whole(new), works.good
+
+
+def exchanges(works):
+    """Every two entries, and every one with the word past the last: of one part of a group, of both parts, of two groups. An
+    entry with itself, and a link's two entries, which are the same number, leave the table as it was."""
+    *_, links = laid_out(works.tanks, works.ends)
+    for pair in itertools.combinations_with_replacement(range(min(len(links) + 1, SIZES[2])), 2):
+        yield EXCHANGE, pair[0], whole(pair[1]), works.good
+
+
+def past_table_changes(works):
+    """What lies past the counts, first and last."""
+    for what, size, part in zip((BEGIN, MIDDLE, ENTRY), SIZES, laid_out(works.tanks, works.ends)):
+        for index in (len(part), size - 1):
+            for new in (0, 1, NO_LINK, LAST_WORD - 1):
+                yield what, index, whole(new), works.good
+
+
+def table_changes(works):
+    for group in (place_changes, entry_changes, exchanges, past_table_changes):
+        yield from group(works)
+
+
+# --- The projects: the good image, and those whose tanks and links matter alone ---
+
+# The image's words, the nodes that are tanks, the links' ends, and what the calls without the table give where nothing breaks.
+Works = collections.namedtuple("Works", "words tanks ends good")
+
+# Tanks A, B, C, D, E by their nodes. B has no link; the last node is a tank.
+A, B, C, D, E = 1, 3, 4, 6, 7
+SEVERAL_TANKS = [images.junction(), images.tank(), images.reservoir(head_pattern=0), images.tank()]
+SEVERAL_TANKS += [images.tank(), images.junction(), images.tank(), images.tank()]
+# A's links go into it and out of it by turns. Two join it to C, one each way. D has one out of it, E two into it; 4 and 11 are at
+# no tank.
+SEVERAL_ENDS = [(0, A), (A, 5), (2, A), (A, C), (0, 5), (C, 0), (2, C), (D, 5), (5, E), (0, E), (C, A), (0, 2)]
+
+
+def works_of(nodes, ends):
+    """A project of these nodes, of pipes between these ends, and of one premise."""
+    tanks = [index for index, record in enumerate(nodes) if record[0] >> 28 == 4]
+    pipes = [images.pipe(start, end) for start, end in ends]
+    words = images.joined([images.options(default_pattern=0), *nodes, *pipes, images.time_premise()])
+    return Works(words, tanks, ends, good() if tanks else TANKLESS)
+
+
+def several_tanks():
+    return works_of(SEVERAL_TANKS, SEVERAL_ENDS)
+
+
+def several_changes(works):
+    yield from table_changes(works)
+    # The records changed, and the table left as it was laid out from those before.
+    for link, (start, end) in enumerate(works.ends):
+        for node in range(len(SEVERAL_TANKS)):
+            yield START, link, whole(node), tables(node != end)
+            yield END, link, whole(node), tables(node != start)
+    for count in (0, 1, 10, 11, 12, 13):
+        yield LINKS, 0, whole(count), tables(count <= 12)
+    for count in (7, 8, 9):
+        yield NODES, 0, whole(count), tables(count == 8)
+    yield from numbers_changed(DIAMETER, E, diameters())
+    yield from words_changed(OVERFLOW, A, [(0, True), (1, True)])
+    for what, index, value in ((FLOW, 11, math.nan), (FLOW, 0, math.inf), (HEAD, E, 1e13), (DEMAND, A, -math.inf)):
+        yield what, index, number(value), BROKEN_STATE
+    for status, within in statuses():
+        yield STATUS, 3, whole(status), good() if within else BROKEN_STATE
+
+
+def tanks_alone():
+    """Three tanks and no link: every place is 0."""
+    return works_of([images.tank()] * 3, [])
+
+
+def alone_changes(works):
+    yield from table_changes(works)
+    # Tanks without links that are no longer there leave a table that begins as before.
+    yield NODES, 0, whole(0), TANKLESS
+    for count in (1, 2, 3, 4):
+        yield NODES, 0, whole(count), tables(count <= 3)
+
+
+def no_tanks():
+    return works_of([images.reservoir(head_pattern=0), images.junction()], [(0, 1)])
+
+
+def tankless_changes(works):
+    yield from table_changes(works)
+    yield START, 0, whole(1), BROKEN_TABLES
+
+
+def full_table():
+    """The most tanks and the most links, each from a tank to a tank: no word lies past the counts."""
+    return works_of([images.tank()] * 256, [(i % 256, (i + 1 + i // 256) % 256) for i in range(384)])
+
+
+def full_changes(works):
+    """At either end of each part."""
+    for change in (*place_changes(works), *entry_changes(works)):
+        what, index = change[:2]
+        if index in (0, 1, SIZES[what - BEGIN] - 2, SIZES[what - BEGIN] - 1):
+            yield change
+    for pair in ((0, 0), (0, 1), (0, 767), (766, 767), (767, 767)):
+        yield EXCHANGE, pair[0], whole(pair[1]), works.good
+    yield LINKS, 0, whole(383), works.good
+    yield START, 383, whole(0), works.good
+
+
+def projects():
+    """Each with its changes."""
+    yield Works(images.image(), [TANK], ENDS, good()), changes()
+    for make, changed in (
+        (several_tanks, several_changes),
+        (tanks_alone, alone_changes),
+        (no_tanks, tankless_changes),
+        (full_table, full_changes),
+    ):
+        works = make()
+        yield works, list(changed(works))
+
+
+# --- What the program reads and prints ---
+
+
 def program_input():
-    words = images.image()
-    data = [len(words), *words, len(changes())]
-    for what, index, value, _ in changes():
-        data += [what, index, *value]
+    data = []
+    for works, changed in projects():
+        data += [len(works.words), *works.words, len(changed)]
+        for what, index, value, _ in changed:
+            data += [what, index, *value]
     return struct.pack(f"<{len(data)}I", *data)
 
 
+def line(words):
+    return "".join(f" {word}" for word in words) + "\n"
+
+
+def expected_lines():
+    for works, changed in projects():
+        for part in lent(works.tanks, works.ends):
+            yield line(part[:SHOWN])
+        for what, index, value, numbers in changed:
+            yield line([*numbers, *table_numbers(works, what, index, value, numbers)])
+
+
 def expected_output():
-    return "".join("".join(f" {n}" for n in expected) + "\n" for *_, expected in changes())
+    return "".join(expected_lines())
 
 
 def main():
@@ -325,7 +551,8 @@ def main():
     out = parser.parse_args().out
     (out / "stdin").write_bytes(program_input())
     (out / "stdout").write_text(expected_output(), encoding="utf-8")
-    print(f"{len(changes())} changes")
+    counts = [len(changed) for _, changed in projects()]
+    print(f"{sum(counts)} changes of {len(counts)} projects")
 
 
 if __name__ == "__main__":

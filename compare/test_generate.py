@@ -1,15 +1,18 @@
-"""Checks of the generated cases' text, of walks and of stops: python3 -m unittest discover -s compare"""
+"""Checks of the generated cases' text, of walks, stops and closings: python3 -m unittest discover -s compare"""
 import pathlib
 import struct
 import subprocess
 import sys
+import types
 import unittest
 
 RUST = pathlib.Path(__file__).resolve().parent / "rust"
 sys.path.insert(0, str(RUST))
 import generate  # noqa: E402
-from image import DAY, LONGEST_TIME, SKIP, Image, Options, Project, Tank  # noqa: E402
-from steps import Levels, advance, causes, starting_levels  # noqa: E402
+from closing import closed_by_table, groups  # noqa: E402
+from image import DAY, LAST_CODE, LONGEST_TIME, MOST_LOADED, SKIP, TEMP_CLOSED  # noqa: E402
+from image import Image, Options, Project, Tank  # noqa: E402
+from steps import Levels, advance, causes, closing_demand, starting_levels  # noqa: E402
 from stops import stops, unforeseen  # noqa: E402
 from walk import refusals, walk  # noqa: E402
 
@@ -31,7 +34,7 @@ class Texts(unittest.TestCase):
                 self.assertEqual(assembled(case), case.input(), f"{kind} {seed}")
 
     def test_the_image_of_a_replay_comes_back_and_its_calls_are_comments(self):
-        for kind in ("replay", "edge", "hours", "slow"):
+        for kind in ("replay", "edge", "hours", "slow", "close"):
             for seed in SEEDS:
                 case = generate.CASES[kind](seed)
                 words = case.project.words()
@@ -112,6 +115,60 @@ class Stops(unittest.TestCase):
             (["tank"], Project(Options(flags=SKIP), nodes=[Tank()])),
         ):
             self.assertEqual(unforeseen(project), reasons, project)
+
+
+class ClosingByTheTable(unittest.TestCase):
+    """Document 02, R-8, in Python alone: coverage.py holds the Rust's closing to the same."""
+
+    def setUp(self):
+        self.cases = [generate.close_case(seed) for seed in range(1, 61)]
+
+    def test_a_group_has_exactly_the_links_at_its_tank_those_into_it_first(self):
+        for project in (case.project for case in self.cases):
+            found = groups(project)
+            self.assertEqual([group.tank for group in found], project.tanks())
+            for group in found:
+                into = [number for number, link in enumerate(project.links) if link.end == group.tank]
+                out = [number for number, link in enumerate(project.links) if link.start == group.tank]
+                self.assertEqual(group.links, [(link, True) for link in into] + [(link, False) for link in out])
+
+    def test_it_leaves_what_a_walk_over_every_link_for_every_tank_leaves(self):
+        closed = 0
+        for case in self.cases:
+            for state in loaded_states(case):
+                right = walked(case.project, state)
+                closed += state.statuses != right[1]
+                self.assertEqual(closed_by_table(case.project, state), right, generate.text_of(case))
+        self.assertGreater(closed, 30)
+
+    def test_lists_have_both_closings_and_few_are_refused(self):
+        codes = [{call.code for call in case.calls} for case in map(generate.close_case, range(1, 201))]
+        self.assertGreater(sum({4, 9} <= found for found in codes), 50)
+        refused = sum(not found <= set(range(1, LAST_CODE + 1)) for found in codes)
+        self.assertTrue(3 < refused < 30, refused)
+
+
+def loaded_states(case):
+    """The start of a case with the flows of each of its loads that is not spoilt."""
+    levels, statuses = starting_levels(case.project), [link.status for link in case.project.links]
+    for flows in (call.load.flows for call in case.calls if call.load):
+        if all(isinstance(flow, float) and abs(flow) <= MOST_LOADED for flow in flows):
+            yield types.SimpleNamespace(heads=levels.heads, demands=levels.demands, flows=flows, statuses=statuses)
+
+
+def walked(project, state):
+    """Demands and statuses after closing, every tank asking every link."""
+    demands, statuses = list(state.demands), list(state.statuses)
+    for tank in project.tanks():
+        node, head = project.nodes[tank], state.heads[tank]
+        demands[tank] = closing_demand(project, tank, state.flows)
+        full = head >= node.elevation + node.greatest and not node.overflow
+        empty = head <= node.elevation + node.least
+        for number, (link, flow) in enumerate(zip(project.links, state.flows)):
+            inflow = {link.end: flow, link.start: -flow}.get(tank, 0.0)
+            if (full and inflow > 0.0) or (empty and inflow < 0.0):
+                statuses[number] = TEMP_CLOSED
+    return demands, statuses
 
 
 if __name__ == "__main__":

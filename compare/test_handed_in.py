@@ -161,5 +161,81 @@ class Changes(unittest.TestCase):
                 self.assertGreaterEqual(place, lengths[pattern])
 
 
+def outcomes(works, changed):
+    """For each code, index and value what closing by the table gives."""
+    return {
+        (what, index, value[0]): handed_in.table_numbers(works, what, index, value, numbers)[1]
+        for what, index, value, numbers in changed
+    }
+
+
+class Tables(unittest.TestCase):
+    """The table of the tanks' links, document 02, R-8."""
+
+    def setUp(self):
+        self.works = handed_in.several_tanks()
+        self.parts = handed_in.laid_out(self.works.tanks, self.works.ends)
+        self.closed = outcomes(self.works, handed_in.several_changes(self.works))
+
+    def test_the_projects_are_accepted_and_have_these_tanks_and_ends(self):
+        for works, _ in handed_in.projects():
+            project = image_decode.decode(works.words)
+            self.assertEqual(project.number, 0)
+            self.assertEqual([i for i, node in enumerate(project.nodes) if node["kind"] == "tank"], works.tanks)
+            self.assertEqual([(link["start"], link["end"]) for link in project.links], works.ends)
+
+    def test_tables_worked_out_by_hand(self):
+        for works, begins, middles, links in (
+            (self.works, [0, 5, 5, 9, 10, 12], [3, 5, 7, 9, 12], [0, 2, 10, 1, 3, 3, 6, 5, 10, 7, 8, 9]),
+            (handed_in.tanks_alone(), [0, 0, 0, 0], [0, 0, 0], []),
+            (handed_in.no_tanks(), [0], [], []),
+        ):
+            self.assertEqual(handed_in.laid_out(works.tanks, works.ends), (begins, middles, links))
+
+    def test_a_full_table_has_no_word_past_the_counts(self):
+        works = handed_in.full_table()
+        parts = handed_in.laid_out(works.tanks, works.ends)
+        self.assertEqual(tuple(map(len, parts)), handed_in.SIZES)
+        self.assertEqual(collections.Counter(parts[2]), collections.Counter({link: 2 for link in range(384)}))
+
+    def test_every_word_is_judged_and_none_past_the_counts(self):
+        for works, changed in handed_in.projects():
+            parts = handed_in.laid_out(works.tanks, works.ends)
+            for (what, index, value), number in outcomes(works, changed).items():
+                if handed_in.BEGIN <= what <= handed_in.ENTRY:
+                    part = parts[what - handed_in.BEGIN]
+                    right = index >= len(part) or part[index] == value
+                    self.assertEqual(number, 0 if right else 10, (what, index, value))
+        for what, part in zip(range(handed_in.BEGIN, handed_in.EXCHANGE), self.parts):
+            refused = {index for (code, index, _), number in self.closed.items() if code == what and number == 10}
+            self.assertEqual(refused, set(range(len(part))))
+
+    def test_an_exchange_of_different_numbers_is_refused(self):
+        links = self.parts[2] + [handed_in.MARKER]
+        pairs = {key[1:]: number for key, number in self.closed.items() if key[0] == handed_in.EXCHANGE}
+        self.assertEqual(len(pairs), 13 * 14 // 2)
+        for (one, other), number in pairs.items():
+            self.assertEqual(number, 0 if links[one] == links[other] else 10, (one, other))
+        # A link with two tanks stands twice: 3 out of A and into C, 10 into A and out of C.
+        alike = {pair for pair, number in pairs.items() if number == 0 and pair[0] != pair[1]}
+        self.assertEqual(alike, {(4, 5), (2, 8)})
+
+    def test_a_changed_end_is_refused_where_a_tank_gains_or_loses_the_link(self):
+        for (what, link, node), number in self.closed.items():
+            if what in (handed_in.START, handed_in.END):
+                ends = self.works.ends[link]
+                before = ends[what - handed_in.START]
+                broken = node == ends[handed_in.END - what]
+                moved = node != before and not {node, before}.isdisjoint(self.works.tanks)
+                self.assertEqual(number, 10 if broken or moved else 0, (what, link, node))
+
+    def test_fewer_links_and_fewer_tanks(self):
+        links = {count: self.closed[handed_in.LINKS, 0, count] for count in (0, 10, 11, 12, 13)}
+        self.assertEqual(links, {0: 10, 10: 10, 11: 0, 12: 0, 13: 10})
+        works = handed_in.tanks_alone()
+        closed = outcomes(works, handed_in.alone_changes(works))
+        self.assertEqual([closed[handed_in.NODES, 0, count] for count in range(5)], [0, 0, 0, 0, 10])
+
+
 if __name__ == "__main__":
     unittest.main()

@@ -4,9 +4,10 @@
     coverage.py --oracle PATH --seed 1 --count 1000
 
 The candidates of a step are worked out a second time by steps.py, from document 01, and the second clock's walk by
-walk.py and a timetable by stops.py, from document 02. A step that is not the smallest of its candidates, a second clock
-that answers or leaves something else than the walk, another timetable, another count of stops, or a line that begins
-with `panic`, ends the count with code 1; so does a thing to reach that is not reached.
+walk.py, a timetable by stops.py and closing by the table by closing.py, from document 02. A step that is not the
+smallest of its candidates, a second clock that answers or leaves something else than the walk, another timetable,
+another count of stops, another state after closing by the table, or a line that begins with `panic`, ends the count
+with code 1; so does a thing to reach that is not reached.
 """
 
 import argparse
@@ -18,6 +19,7 @@ import sys
 from collections import Counter
 
 import generate
+from closing import closed_by_table, closes, groups, is_empty, is_full, summed
 from image import *
 from programs import Program
 from run import chunks
@@ -75,12 +77,18 @@ def count_case(counts, kind, case, answer):
         if kind == "slow":
             count_both_clocks(counts, lines)
             count_stops_so_far(counts, case, lines)
+        if kind == "close":
+            count_both_closings(counts, case, lines)
 
 
 def count_replay(counts, case, lines):
     project = case.project
     assert lines[0].startswith("start ok"), f"a project of the generator's is refused: {lines[0]}"
-    assert len(lines) == 1 + len(case.calls), "a line for each call"
+    if lines[-1] == "refused 18":
+        lines = lines[:-1]
+        count_broken_list(counts, case, len(lines) - 1)
+    else:
+        assert len(lines) == 1 + len(case.calls), "a line for each call"
     count_project(counts, project)
     before = State(project, lines[0])
     for call, line in zip(case.calls, lines[1:]):
@@ -396,6 +404,112 @@ def count_both_clocks(counts, lines):
     counts["slow: both clocks in one list"] += moved == {"step", "slow"}
 
 
+# Closing by the table
+
+
+def count_table(counts, project, call, answer, before, after):
+    """The state after it has to be the one that closing.py works out."""
+    demands, statuses = closed_by_table(project, before)
+    right, links = list(before.words), 2 + 3 * len(project.nodes)
+    right[3:links:3] = map(bits_of, demands)
+    right[links + 1 :: 3] = statuses
+    if after.words != right:
+        stop(project, call, f"at {before.instant} closing by the table leaves another state")
+    count_tanks(counts, project)
+    count_joined(counts, project, before)
+    for group in groups(project):
+        count_group(counts, group)
+        count_group_closed(counts, project.nodes[group.tank], group, before)
+        count_group_summed(counts, group, before, after)
+    counts["table: at the duration"] += before.instant == project.options.duration > 0
+
+
+def count_tanks(counts, project):
+    tanks, nodes, links = project.tanks(), len(project.nodes), project.links
+    counts["table: no tank"] += not tanks
+    counts["table: tanks without a link"] += len(tanks) > 1 and not links
+    counts["table: every node a tank"] += len(tanks) == nodes > 2
+    counts["table: no tank for the first and last node"] += bool(tanks) and {0, nodes - 1}.isdisjoint(tanks)
+    counts["table: full, 768 entries"] += len(links) == MOST_LINKS and len(tanks) == nodes
+
+
+def count_joined(counts, project, before):
+    """The links from a tank to a tank, and which of the two closes each."""
+    tanks = set(project.tanks())
+    flows = [((link.start, link.end), flow) for link, flow in zip(project.links, before.flows)]
+    joined = [(ends, flow) for ends, flow in flows if tanks.issuperset(ends)]
+    pairs = {ends for ends, _ in joined}
+    counts["table: two tanks joined both ways"] += any((end, start) in pairs for start, end in pairs)
+    counts["table: two tanks joined twice the same way"] += len(pairs) < len(joined)
+    for (start, end), flow in joined:
+        by_start = closes(project.nodes[start], before.heads[start], -flow)
+        by_end = closes(project.nodes[end], before.heads[end], flow)
+        counts[f"table: a link between two tanks closed by {CLOSED_BY[by_start, by_end]}"] += 1
+
+
+CLOSED_BY = {(False, False): "neither", (True, False): "its start", (False, True): "its end", (True, True): "both"}
+
+
+def count_group(counts, group):
+    ways = [into for _, into in group.links]
+    into, out = ways.count(True), ways.count(False)
+    numbers = [link for link, _ in group.links]
+    counts["table: a tank without links"] += not ways
+    counts["table: a tank with links into it alone"] += into > 0 == out
+    counts["table: a tank with links out of it alone"] += out > 0 == into
+    counts["table: a tank with two or more links each way"] += into > 1 < out
+    counts["table: a tank's links not in link order"] += numbers != sorted(numbers)
+
+
+def count_group_closed(counts, tank, group, before):
+    head = before.heads[group.tank]
+    for (_, into), inflow in zip(group.links, group.inflows(before.flows)):
+        way = "into" if into else "out of"
+        if is_full(tank, head) and inflow > 0.0:
+            counts[f"table: full tank, link {way} it, {'overflow, left' if tank.overflow else 'closed'}"] += 1
+        if is_empty(tank, head) and inflow < 0.0:
+            counts[f"table: empty tank, link {way} it, closed"] += 1
+
+
+def count_group_summed(counts, group, before, after):
+    """Whether the demand changes, and whether it would be another if its links were summed in another order."""
+    was, now = before.demands[group.tank], after.demands[group.tank]
+    counts["table: a tank's demand changes"] += bits_of(was) != bits_of(now)
+    counts["table: a tank's demand changes in its last bits"] += 0.0 != was != now and abs(now / was - 1.0) < 1e-9
+    inflows = dict(zip(group.links, group.inflows(before.flows)))
+    orders = {
+        "in link order": sorted(inflows),
+        "with links out first": sorted(inflows, key=lambda entry: entry[1]),
+        "from the last link": sorted(inflows, key=lambda entry: (not entry[1], -entry[0])),
+    }
+    for order, entries in orders.items():
+        counts[f"table: a sum {order} gives another demand"] += summed(inflows[entry] for entry in entries) != now
+
+
+def count_both_closings(counts, case, lines):
+    """The closings that were made one behind the other, and those before any load."""
+    answered = [line for line in lines[1:] if not line.startswith("refused")]
+    made = [call.code for call, _ in zip(case.calls, answered)]
+    for one, other in itertools.pairwise(made):
+        counts["table: straight after the other closing"] += (one, other) == (CLOSE_CALL, TABLE_CALL)
+        counts["table: straight before the other closing"] += (one, other) == (TABLE_CALL, CLOSE_CALL)
+        counts["table: twice running"] += one == other == TABLE_CALL
+    counts["table: before every other call"] += made[:1] == [TABLE_CALL]
+    counts["table: by the start's flows"] += LOAD_CALL in made and TABLE_CALL in made[: made.index(LOAD_CALL)]
+
+
+def count_broken_list(counts, case, made):
+    """Why a list is refused with 18, after so many calls."""
+    if case.cut:
+        assert made == max(len(case.calls) - 1, 0), "the last call is cut"
+        counts["list: cut, refused 18" if case.calls else "list: its count cut, refused 18"] += 1
+        return
+    code = case.calls[made].code
+    assert not 0 < code <= LAST_CODE, f"a call of code {code} is refused"
+    counts[f"list: code {code if code <= LAST_CODE + 1 else 'above 10'} refused 18"] += 1
+    counts["list: refused 18 behind some calls"] += made > 0
+
+
 # The timetable
 
 
@@ -535,6 +649,7 @@ COUNTERS = {
     PREMISE_CALL: count_premise,
     STEP_CALL: count_step,
     SLOW_CALL: count_slow,
+    TABLE_CALL: count_table,
 }
 
 
@@ -548,6 +663,7 @@ def expected():
     yield from expected_steps()
     yield from expected_walks()
     yield from expected_timetables()
+    yield from expected_closings()
     yield from named("status", ["close makes TempClosed"])
     yield from named("close", (f"{tank} tank, link {way} it, closed" for tank in ("full", "empty") for way in WAYS))
     yield from named("close", (f"full tank, link {way} it, overflow, left" for way in WAYS))
@@ -664,6 +780,25 @@ def expected_timetables():
     yield from named("stops", ["foreseen without controls", "foreseen with a pattern start"])
     yield from named("stops", ["foreseen with loads or bytes behind the image"])
     yield from named("stops", (f"the count after a list that ends {at} the duration" for at in ("before", "at")))
+
+
+def expected_closings():
+    yield from named("table", ["no tank", "tanks without a link", "every node a tank"])
+    yield from named("table", ["no tank for the first and last node", "full, 768 entries"])
+    yield from named("table", ["two tanks joined both ways", "two tanks joined twice the same way"])
+    yield from named("table", (f"a link between two tanks closed by {which}" for which in CLOSED_BY.values()))
+    shapes = ("without links", *(f"with links {way} it alone" for way in WAYS), "with two or more links each way")
+    yield from named("table", (f"a tank {shape}" for shape in shapes))
+    yield from named("table", ["a tank's links not in link order"])
+    yield from named("table", (f"{tank} tank, link {way} it, closed" for tank in ("full", "empty") for way in WAYS))
+    yield from named("table", (f"full tank, link {way} it, overflow, left" for way in WAYS))
+    yield from named("table", ["a tank's demand changes", "a tank's demand changes in its last bits"])
+    orders = ("in link order", "with links out first", "from the last link")
+    yield from named("table", (f"a sum {order} gives another demand" for order in orders))
+    yield from named("table", (f"straight {when} the other closing" for when in ("after", "before")))
+    yield from named("table", ["twice running", "before every other call", "by the start's flows", "at the duration"])
+    yield from named("list", (f"code {code} refused 18" for code in ("0", "10", "above 10")))
+    yield from named("list", ["cut, refused 18", "refused 18 behind some calls"])
 
 
 def main():

@@ -73,12 +73,32 @@ def timetable(words, old, new):
     return reading(words, "timetable.rs", (old, new))
 
 
-SHOWS_IN = {"image.rs": "image", "driver.rs": "driver", "second_clock.rs": "slow", "timetable.rs": "stops"}
+SHOWS_IN = {
+    "image.rs": "image", "driver.rs": "driver", "second_clock.rs": "slow", "timetable.rs": "stops",
+    "replay.rs": "close",
+}
 
 
 def slow_call(words, old, new):
     """A fault in what the oracle makes of the second clock's call."""
     return Fault(words, "progress.rs", (Passage(old, new),), True, "slow")
+
+
+def table_call(words, new):
+    """A fault in what the oracle makes of closing by the table."""
+    return Fault(words, "progress.rs", (Passage("self.close();", new),), True, "close")
+
+
+def tank_sums(words, changed, before=""):
+    """Such a fault in the tanks' sums: what is made of a tank's inflows, each behind its link's number."""
+    return table_call(
+        words,
+        f"self.close(); let (network, state) = parts(&mut self.simulation); {before} "
+        "for (tank, node) in network.nodes.iter().enumerate() { if let NodeType::Tank(found) = &node.node_type { "
+        "let into = found.links_to.iter().map(|&link| (link, state.flows[link])); "
+        "let out = found.links_from.iter().map(|&link| (link, -state.flows[link])); "
+        "let mut inflows: Vec<(usize, f64)> = into.chain(out).collect(); "
+        f"{changed} state.demands[tank] = inflows.iter().fold(0.0, |sum, inflow| sum + inflow.1); }} }}")
 
 
 TANK, CONTROL, RULE, LINK = "model/tank.rs", "model/control.rs", "model/rule.rs", "model/link.rs"
@@ -632,7 +652,67 @@ TIMETABLE = [
               "let project = match read.and_then(|project| if input.is_empty() { Ok(project) } else { Err(7) }) {"),
 ]
 
+KEPT = "let kept = self.state().{0}.clone(); self.close(); parts(&mut self.simulation).1.{0} = kept;"
+TEMP_CLOSED, CLOSED = "STATUSES[1]", "STATUSES[2]"
+BY_TABLE = "9 => {\n            progress.close_by_table();\n            "
+CUT = 'else { return writeln!(out, "refused {BROKEN_LIST}") };\n'
+
+BY_THE_TABLE = [
+    table_call("closing by the table does nothing", ""),
+    table_call("it sums and closes no link", KEPT.format("statuses")),
+    table_call("it closes and sums nothing", KEPT.format("demands")),
+    table_call("a link with a flow from end to start is not closed",
+               "let before = self.state().statuses.clone(); self.close(); let state = parts(&mut self.simulation).1; "
+               "for (link, status) in before.into_iter().enumerate() "
+               "{ if state.flows[link] < 0.0 { state.statuses[link] = status; } }"),
+    table_call("it makes Closed of a link",
+               "let before = self.state().statuses.clone(); self.close(); let state = parts(&mut self.simulation).1; "
+               "for (status, was) in state.statuses.iter_mut().zip(before) "
+               f"{{ if *status == {TEMP_CLOSED} && was != *status {{ *status = {CLOSED}; }} }}"),
+    table_call("it opens a link that it does not close",
+               f"parts(&mut self.simulation).1.statuses.iter_mut().filter(|status| **status == {TEMP_CLOSED})"
+               ".for_each(|status| *status = STATUSES[3]); self.close();"),
+    table_call("it adds to the demand that is there",
+               "let before = self.state().demands.clone(); self.close(); "
+               "let (network, state) = parts(&mut self.simulation); "
+               "for (index, node) in network.nodes.iter().enumerate() "
+               "{ if matches!(node.node_type, NodeType::Tank(_)) { state.demands[index] += before[index]; } }"),
+    tank_sums("the links out of a tank are summed first",
+              "let into = found.links_to.len(); inflows.rotate_left(into);"),
+    tank_sums("a tank's links are summed in link order", "inflows.sort_by_key(|inflow| inflow.0);"),
+    tank_sums("a tank's links are summed from the last", "inflows.reverse();"),
+    tank_sums("the links out of a tank are not there", "inflows.truncate(found.links_to.len());"),
+    tank_sums("a tank's last link is left out", "inflows.pop();"),
+    tank_sums("a tank's first link out of it is one into it",
+              "if let Some(first) = inflows.get_mut(found.links_to.len()) { first.1 = -first.1; }"),
+    tank_sums("a link between two tanks stands at its end alone",
+              "inflows.retain(|inflow| network.links[inflow.0].end_node == tank "
+              "|| !matches!(network.nodes[network.links[inflow.0].end_node].node_type, NodeType::Tank(_)));"),
+    tank_sums("the tanks behind one without links have none",
+              "ended |= inflows.is_empty(); if ended { inflows.clear(); }", "let mut ended = false;"),
+    tank_sums("every tank has the links of the first",
+              "let own = inflows.clone(); inflows = first.get_or_insert(own).clone();",
+              "let mut first: Option<Vec<(usize, f64)>> = None;"),
+    tank_sums("the table ends after 384 entries",
+              "inflows.truncate(room); room -= inflows.len();", "let mut room = 384;"),
+    tank_sums("the table ends after 767 entries",
+              "inflows.truncate(room); room -= inflows.len();", "let mut room = 767;"),
+]
+
+BROKEN_LISTS = [
+    reading("closing by the table has another name", "replay.rs", (BY_TABLE + '"close', BY_TABLE + '"table')),
+    reading("9 is no call", "replay.rs", ("9 => {", "19 => {")),
+    reading("10 is a call", "replay.rs", ("9 => {", "9 | 10 => {")),
+    reading("every code above 9 is a call", "replay.rs",
+            ("9 => {", "9.. => {"), ("_ => return None", "0 => return None")),
+    reading("a code that no call has is passed over", "replay.rs",
+            ("_ => return None", "_ => return call(progress, input)")),
+    reading("a list that is cut ends without a line", "replay.rs",
+            (CUT + "        write!", "else { return Ok(()) };\n        write!")),
+    reading("number 17 in place of 18", "replay.rs", ("BROKEN_LIST: Fault = 18", "BROKEN_LIST: Fault = 17")),
+]
+
 FAULTS = [
     *TEMPTING, *TANKS, *PATTERNS, *CONTROLS, *LINKS, *CLOSING, *STEPS, *PREMISES, *IMAGES, *LOADS, *CALLS, *DRIVING,
-    *SECOND_CLOCK, *FORESEEN, *TIMETABLE,
+    *SECOND_CLOCK, *FORESEEN, *TIMETABLE, *BY_THE_TABLE, *BROKEN_LISTS,
 ]

@@ -34,14 +34,15 @@ FIRST_PIECE, LONGEST_PIECE = 25, 400
 # Seconds for a piece. A planted fault might let a run step on for ever.
 PATIENCE = 60
 
-# An image's faults show in images first, a driver's in the driver, the second clock's in its own lists, and those of a
-# timetable in timetables.
+# An image's faults show in images first, a driver's in the driver, those of the second clock and of closing by the
+# table in their own lists, and those of a timetable in timetables.
 ORDERS = {
-    "image": ("sweep", "image", "replay", "edge", "hours", "driver", "strain", "slow", "stops"),
-    "driver": ("driver", "strain", "replay", "edge", "hours", "slow", "stops", "image", "sweep"),
-    "slow": ("slow", "replay", "edge", "hours", "driver", "strain", "stops", "image", "sweep"),
-    "stops": ("stops", "slow", "replay", "edge", "hours", "driver", "strain", "image", "sweep"),
-    "other": ("replay", "edge", "hours", "driver", "strain", "slow", "stops", "image", "sweep"),
+    "image": ("sweep", "image", "replay", "edge", "hours", "driver", "strain", "slow", "stops", "close"),
+    "driver": ("driver", "strain", "replay", "edge", "hours", "slow", "stops", "close", "image", "sweep"),
+    "slow": ("slow", "replay", "edge", "hours", "driver", "strain", "stops", "close", "image", "sweep"),
+    "stops": ("stops", "slow", "replay", "edge", "hours", "driver", "strain", "close", "image", "sweep"),
+    "close": ("close", "replay", "edge", "hours", "driver", "strain", "slow", "stops", "image", "sweep"),
+    "other": ("replay", "edge", "hours", "driver", "strain", "slow", "stops", "close", "image", "sweep"),
 }
 
 # Built for a quick build: what the oracle answers does not depend on it.

@@ -1,8 +1,8 @@
 #!/usr/bin/env python3
 """Random projects, lists of calls, driver inputs and damaged images, each fixed by its seed.
 
-    generate.py --replay SEED | --edge SEED | --hours SEED | --slow SEED | --driver SEED | --strain SEED |
-                --stops SEED | --image SEED | --sweep NUMBER [--out FILE] [--text]
+    generate.py --replay SEED | --edge SEED | --hours SEED | --slow SEED | --close SEED | --driver SEED |
+                --strain SEED | --stops SEED | --image SEED | --sweep NUMBER [--out FILE] [--text]
 
 A sweep's images are not random: they try each field's limits, each header and each table's end one by one.
 With --text the image and its loads are written as the text of tools/image; why the input is refused stands in front,
@@ -116,6 +116,18 @@ def slow_case(seed):
     project.premises = make_premises(chance, project, moments)
     calls = slow_calls(chance, project, [moment.load for moment in moments])
     return Replay(project, walked_at_most(project, calls, DAY * chance.choice((1, 1, 1, 2, 2, 4, 20))))
+
+
+def close_case(seed):
+    """Lists with closing by the table among the other calls, on works of many tanks and of many links at them. A few
+    lists have a code that no call has, or are cut."""
+    chance = Chance(f"close {seed}")
+    project = close_project(chance)
+    moments = make_moments(chance, project, most=4)
+    project.premises = make_premises(chance, project, moments)
+    loads = [through_tanks(chance, moment.load) for moment in moments]
+    case = Replay(project, close_calls(chance, project, loads))
+    return broken_list(chance, case) if chance.one_in(12) else case
 
 
 def strain_case(seed):
@@ -773,6 +785,88 @@ def walked_at_most(project, calls, most):
     return calls
 
 
+# Closing by the table
+
+
+def close_project(chance):
+    """Tanks for most or for all of the nodes, and links that mostly have one or two of them."""
+    sizes = close_sizes(chance)
+    options = make_options(chance)
+    project = Project(options, [make_pattern(chance) for _ in range(chance.randint(0, 2))])
+    options.default_pattern = pattern_word(chance, project)
+    project.nodes = [close_node(chance, project, sizes["tankless"]) for _ in range(sizes["nodes"])]
+    if len(project.nodes) > 1:
+        project.links = [make_link(chance, project) for _ in range(sizes["links"])]
+    if project.links:
+        project.controls = [make_control(chance, project) for _ in range(chance.randint(0, 3))]
+    return project
+
+
+def close_sizes(chance):
+    """How many nodes and links, and one in how many nodes is no tank, 0 for none: then the largest table is full."""
+    if chance.one_in(40):
+        return dict(nodes=MOST_NODES, links=MOST_LINKS, tankless=chance.choice((0, 4)))
+    return dict(
+        nodes=chance.among((1, 1), (6, lambda: chance.randint(2, 5)), (4, lambda: chance.randint(6, 12))),
+        links=chance.among((1, 0), (6, lambda: chance.randint(1, 8)), (4, lambda: chance.randint(9, 24))),
+        tankless=chance.choice((0, 2, 4, 4)),
+    )
+
+
+def close_node(chance, project, tankless):
+    """Mostly a tank, and mostly one at a limit, where closing changes statuses."""
+    if tankless and chance.one_in(tankless):
+        return make_node(chance, project, False)
+    tank = make_tank(chance)
+    if not chance.one_in(3):
+        tank.initial = chance.choice((tank.least, tank.greatest))
+    return tank
+
+
+def through_tanks(chance, load):
+    """The load as it is, or with flows by all links, of which great ones meet, so that the order of a sum shows."""
+    if chance.one_in(3):
+        return load
+    great = 10.0 ** chance.randint(3, 11)
+    flows = [through_flow(chance, great) for _ in load.flows]
+    return Load(flows, list(load.heads))
+
+
+def through_flow(chance, great):
+    return chance.among(
+        (6, lambda: round(chance.uniform(-50.0, 50.0), 2)),
+        (3, lambda: chance.sign() * great),
+        (2, lambda: chance.choice((0.0, -0.0, TINIEST, -TINIEST))),
+    )
+
+
+def close_calls(chance, project, loads):
+    """Cycles in which closing by the table stands for the other closing or beside it, and some more of its calls."""
+    cycles = [loose_cycle(chance, project, loads) for _ in range(chance.randint(1, 4))]
+    calls = [closing for cycle in cycles for call in cycle for closing in closings(chance, call)]
+    while chance.one_in(3):
+        calls.insert(chance.randint(0, len(calls)), Call(TABLE_CALL))
+    return calls
+
+
+def closings(chance, call):
+    """The call itself; for closing one of the two, or both."""
+    if call.code != CLOSE_CALL:
+        return [call]
+    both = ((CLOSE_CALL, TABLE_CALL), (TABLE_CALL, CLOSE_CALL), (TABLE_CALL, TABLE_CALL))
+    return [Call(code) for code in chance.choice(((CLOSE_CALL,), (TABLE_CALL,), (TABLE_CALL,), *both))]
+
+
+def broken_list(chance, case):
+    """The case with its end cut, or with a code that no call has."""
+    if chance.one_in(3):
+        case.cut = chance.randint(1, 4)
+    else:
+        code = chance.choice((0, LAST_CODE + 1, LAST_CODE + 1, LAST_CODE + 2, 1 << 31, limits.ONES))
+        case.calls.insert(chance.randint(0, len(case.calls)), Call(code))
+    return case
+
+
 # The timetable
 
 # The program under comparison works out so many stops at once.
@@ -878,6 +972,7 @@ CASES = {
     "edge": edge_case,
     "hours": hours_case,
     "slow": slow_case,
+    "close": close_case,
     "driver": drive_case,
     "strain": strain_case,
     "stops": stops_case,
@@ -898,6 +993,8 @@ def text_of(case):
     shown_input = image_show.show_input(driven(case))
     fault = [f"# {shown_input.fault}"] if shown_input.fault else []
     calls = [f"# {describe(call)}" for call in case.calls] if isinstance(case, Replay) else []
+    if calls and case.cut:
+        calls[-1] += f", {case.cut} bytes cut from its end"
     return "\n".join(fault + shown_input.lines + calls)
 
 

@@ -41,7 +41,8 @@ SORTS = ("number", "status", "time")
 NUMBER, STATUS, SECONDS = range(3)
 
 PATTERNS_CALL, CONTROLS_CALL, LOAD_CALL, CLOSE_CALL, PRESSURE_CALL, PREMISE_CALL, STEP_CALL, SLOW_CALL = range(1, 9)
-CALL_NAMES = (None, "patterns", "controls", "load", "close", "pressure", "premise", "step", "slow")
+TABLE_CALL = LAST_CODE = 9
+CALL_NAMES = (None, "patterns", "controls", "load", "close", "pressure", "premise", "step", "slow", "close by table")
 LOAD_KIND = 15
 
 
@@ -244,16 +245,18 @@ REPLAY, DRIVER, TIMETABLE = 1, 2, 3
 
 @dataclass
 class Replay:
-    """A project and a list of calls, the input of `replay`."""
+    """A project and a list of calls, the input of `replay`, and how many bytes are cut from its end."""
 
     project: Project
     calls: list
+    cut: int = 0
     mode = REPLAY
 
     def input(self):
         image = self.project.words()
         calls = [word for call in self.calls for word in call.words()]
-        return to_bytes([len(image)] + image + [len(self.calls)] + calls)
+        data = to_bytes([len(image)] + image + [len(self.calls)] + calls)
+        return data[: len(data) - self.cut]
 
 
 @dataclass
@@ -312,7 +315,7 @@ def describe(call):
     if call.code == PREMISE_CALL:
         return f"premise {call.premise}"
     if call.code != LOAD_CALL:
-        return CALL_NAMES[call.code]
+        return CALL_NAMES[call.code] if 0 < call.code < len(CALL_NAMES) else f"code {call.code}"
     load = call.load
     spoilt = f", header ^ {load.header_change:#x}" if load.header_change else ""
     spoilt += f", {load.length_change:+d} words" if load.length_change else ""

@@ -7,11 +7,12 @@ Out of the seeds' lists of calls and damaged images and out of the sweep, the sm
 something which fewer than --times of those kept before it reach, and a large one only for what none of them reaches;
 coverage.py names what there is. A list of calls is cut behind the last call that it was kept for, but not to fewer than
 --least-calls; on a project with the largest tables it is one call of each sort. In front stand inputs whose count is
-wrong, then the cases so kept, then those of the narrow kinds by which faults.py finds what no other kind shows, and at
-the end the second clock's, chosen in the same way among its own and by what coverage.py counts of it, and works of the
-stock walked by it, which are held to their listings. data/case000, data/case001, .. are the inputs; stdout has for each
-a line with its name and then the answer, and ends with the number of cases. Where something is not reached it is named,
-and the end is code 1; what coverage.py counts of `driver` and `timetable` is not asked for.
+wrong, then the cases so kept, then those of the narrow kinds by which faults.py finds what no other kind shows. Behind
+them are the second clock's, chosen in the same way among its own and by what coverage.py counts of it, and works of the
+stock walked by it, which are held to their listings; and at the end those of closing by the table and of lists that are
+refused, chosen in that way too. data/case000, data/case001, .. are the inputs; stdout has for each a line with its name
+and then the answer, and ends with the number of cases. Where something is not reached it is named, and the end is code
+1; what coverage.py counts of `driver` and `timetable` is not asked for.
 """
 
 import argparse
@@ -22,22 +23,29 @@ from pathlib import Path
 
 import generate
 from coverage import count_case, expected
-from image import MOST_LINKS, MOST_WORDS, PATTERNS_CALL, REPLAY, SLOW_CALL, STEP_CALL, Options, Replay, to_bytes
+from image import LOAD_CALL, MOST_LINKS, MOST_WORDS, PATTERNS_CALL, REPLAY, SLOW_CALL, STEP_CALL, TABLE_CALL
+from image import Options, Replay, to_bytes
 from programs import Program
 from run import chunks
 from stored import STOCK, write
 
 KINDS = ["sweep", "image", "replay"]
 SECOND_CLOCK = ["slow"]
-ORDER = KINDS + SECOND_CLOCK
+BY_TABLE = ["close"]
+ORDER = KINDS + SECOND_CLOCK + BY_TABLE
+# Of these kinds only what coverage.py says of their subjects counts.
+SUBJECTS = {"slow": ("slow: ",), "close": ("table: ", "list: ")}
 OTHER_KINDS = ("driver", "edge", "hours", "strain", "stops")
 NARROW = {"edge": (1, 2, 3, 35, 63, 422), "hours": (1, 2, 149, 155)}  # seeds
 LARGE = 20_000  # bytes of input and answer
 SECOND_CLOCK_SEEDS = 1000  # the walks are worked out again in Python, which takes its time
 SECOND_CLOCK_TIMES = 2
+BY_TABLE_SEEDS, BY_TABLE_TIMES = 1000, 1
 WALKED = ("coldash", "yarrowford")  # the works of the stock that the second clock serves
 NOT_WALKED = ("hazelcombe", "netherbeck")  # one on the fast path, one with a tank
 CALL_CODES = range(PATTERNS_CALL, STEP_CALL + 1)
+# The calls on a project with the largest tables; by the table two are enough.
+LARGEST_CODES = {"replay": CALL_CODES, "close": (LOAD_CALL, TABLE_CALL)}
 
 
 @dataclass
@@ -55,10 +63,13 @@ def main():
     kept, reached = chosen(oracle, found, arguments.times, arguments.least_calls)
     walks = candidates(oracle, SECOND_CLOCK, arguments.seed, min(arguments.count, SECOND_CLOCK_SEEDS))
     walked, reached_walking = chosen(oracle, walks, SECOND_CLOCK_TIMES, arguments.least_calls)
-    reached += reached_walking
-    inputs = [*miscounted(), *inputs_of(kept), *narrow(), *inputs_of(walked), *stock()]
+    closings = candidates(oracle, BY_TABLE, arguments.seed, min(arguments.count, BY_TABLE_SEEDS))
+    closed, reached_closing = chosen(oracle, closings, BY_TABLE_TIMES, arguments.least_calls)
+    reached += reached_walking + reached_closing
+    before = [*miscounted(), *inputs_of(kept), *narrow(), *inputs_of(walked)]
+    inputs = [*before, *stock(), *inputs_of(closed)]
     answers = oracle.answers([(REPLAY, data) for data in inputs])
-    check_stock(answers[-len(stock()):])
+    check_stock(answers[len(before) :])
     write(Path(arguments.out), inputs, answers)
     print(f"{len(inputs)} cases in {arguments.out}, which reach {len(reached)} things")
     missing = [name for name in expected() if not name.startswith(OTHER_KINDS) and not reached[name]]
@@ -124,9 +135,9 @@ def candidates(oracle, kinds, seed, count):
         answers = oracle.answers([(case.mode, case.input()) for _, _, case in cases])
         for (kind, number, case), answer in zip(cases, answers):
             if is_largest(case):
-                case = one_of_each(case)
+                case = one_of_each(kind, case)
                 answer = oracle.answer(REPLAY, case.input())
-            if not is_largest(case) or len(case.calls) == len(CALL_CODES):
+            if not is_largest(case) or len(case.calls) == len(LARGEST_CODES[kind]):
                 size = len(case.input()) + len(answer)
                 found.append(Candidate(size, kind, number, frozenset(names_of(kind, case, answer))))
     return sorted(found, key=lambda candidate: (candidate.size, candidate.kind, candidate.seed))
@@ -136,18 +147,17 @@ def is_largest(case):
     return isinstance(case, Replay) and len(case.project.links) == MOST_LINKS
 
 
-def one_of_each(case):
+def one_of_each(kind, case):
     """The first call of each sort, in a driver's order. Every answer of a large project is long."""
-    firsts = [next((call for call in case.calls if call.code == code), None) for code in CALL_CODES]
+    firsts = [next((call for call in case.calls if call.code == code), None) for code in LARGEST_CODES[kind]]
     return Replay(case.project, [call for call in firsts if call])
 
 
 def names_of(kind, case, answer):
-    """What the case reaches; of the second clock's own cases only what is said of that clock."""
+    """What the case reaches; of cases for one subject only what is said of that."""
     counts = Counter()
     count_case(counts, kind, case, answer)
-    subject = "slow: " if kind in SECOND_CLOCK else ""
-    return {name for name, number in counts.items() if number and name.startswith(subject)}
+    return {name for name, number in counts.items() if number and name.startswith(SUBJECTS.get(kind, ""))}
 
 
 def chosen(oracle, found, times, least_calls):
@@ -159,7 +169,7 @@ def chosen(oracle, found, times, least_calls):
         if wanted:
             case = generate.CASES[candidate.kind](candidate.seed)
             if is_largest(case):
-                case = one_of_each(case)
+                case = one_of_each(candidate.kind, case)
             elif isinstance(case, Replay):
                 case = cut(oracle, candidate.kind, case, wanted, least_calls)
             reached.update(names_of(candidate.kind, case, oracle.answer(REPLAY, case.input())))
@@ -168,8 +178,11 @@ def chosen(oracle, found, times, least_calls):
 
 
 def cut(oracle, kind, case, wanted, least_calls):
-    """The case with the shortest beginning of its calls that reaches all that is wanted of it."""
+    """The case with the shortest beginning of its calls that reaches all that is wanted of it. A list that is refused
+    stays whole."""
     lines = oracle.answer(REPLAY, case.input()).split(b"\n")
+    if b"refused 18" in lines:
+        return case
 
     def reaches(count):
         beginning = Replay(case.project, case.calls[:count])

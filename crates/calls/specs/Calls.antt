@@ -4,6 +4,7 @@ use Prim.Native.Nat.{ℕ}
 use mathlib.Core.Bool.{Bool, true, false, cond}
 use mathlib.Core.List.{List, [], _∷_}
 use lib.Dec.{eqb, ltb}
+use lib.Seq.{sets}
 use Rattle.model.specs.Blank.{blankState}
 use Rattle.model.specs.declared.project.Project.{Project}
 use Rattle.model.specs.declared.state.State.{State}
@@ -13,6 +14,7 @@ use Rattle.state.specs.Start.{newWithInitialValues}
 use Rattle.state.specs.Patterns.{applyPatterns}
 use Rattle.state.specs.Controls.{applyControls}
 use Rattle.load.specs.Loads.{loadFault, takeLoad}
+use Rattle.tank_links.specs.Groups.{isLaidOut}
 use Rattle.solver.specs.Closing.{updateTankLinks}
 use Rattle.solver.specs.Pressure.{applyPressureControls}
 use Rattle.premise.specs.Premise.{premiseTruthAt}
@@ -47,6 +49,18 @@ load p words s = judged p s (cond (eqb (loadFault p words) 0) (gives 0 (takeLoad
 
 unfoldable pub tankLinks : Project → State → Called
 tankLinks p s = judged p s (gives 0 (updateTankLinks p s))
+
+-- Document 02, R-8. The table of the tanks' links, laid out: 0, or 10 on tables that do not fit
+unfoldable pub layOut : Project → ℕ
+layOut p = cond (tablesOk p) 0 10
+
+-- what a lent array has after it: a list, from the start on; what lies past the list is as it was, and all of it where the call is refused
+unfoldable pub laidInto : Project → List ℕ → List ℕ → List ℕ
+laidInto p xs array = cond (tablesOk p) (sets array 0 xs) array
+
+-- closing by a table that is handed in: "10 also where a table handed to a call is not the one laid out from the project's records"
+unfoldable pub tankLinksBy : Project → List ℕ → List ℕ → List ℕ → State → Called
+tankLinksBy p begins middles links s = judged p s (cond (isLaidOut p begins middles links) (gives 0 (updateTankLinks p s)) (gives 10 s))
 
 -- the pressure pass also answers whether it changed anything; refused, it changed nothing
 unfoldable pub pressure : Project → State → PressureCalled

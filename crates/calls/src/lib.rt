@@ -1,6 +1,7 @@
 // The public calls: each judges the tables and the state first (10), and yields the number and the same state where it refuses.
 ghost use mathlib.Core.Path.{_≡_};
-ghost use Rattle.calls.specs.Calls.{start, patterns, controls, load, tankLinks, pressure, premise, premiseNumber, premiseTruths, numberOfPremise, truthsOfPremise, step};
+ghost use Rattle.tank_links.specs.Groups.{beginsOf, middlesOf, entriesOf};
+ghost use Rattle.calls.specs.Calls.{start, patterns, controls, load, tankLinks, layOut, laidInto, tankLinksBy, pressure, premise, premiseNumber, premiseTruths, numberOfPremise, truthsOfPremise, step};
 use judge::in_order;
 use model::*;
 use tables::tables_ok;
@@ -113,6 +114,55 @@ pub fn update_tank_links(p: Project, s: State) -> Called
         };
     }
     let state = solver::update_tank_links(p, s);
+    Called {
+        number: 0,
+        state: state,
+    }
+}
+
+// Lays out the table of the tanks' links (document 02, R-8): tank k's links are links[i] for i from begins[k] up to begins[k + 1], those out
+// of it from middles[k] on. What lies past the places and entries of the project's tanks stays as it was, and all of it where 10 is given.
+pub fn lay_out_tank_links(
+    p: Project,
+    begins: &mut [u32; 257],
+    middles: &mut [u32; 256],
+    links: &mut [u32; 768],
+) -> u32
+    ensures { λ r. ⌜ r ≡ layOut p ⌝ }
+    ensures { λ _. ⌜ now (begins .exit) ≡ laidInto p (beginsOf p) (now (begins .entry)) ⌝ }
+    ensures { λ _. ⌜ now (middles .exit) ≡ laidInto p (middlesOf p) (now (middles .entry)) ⌝ }
+    ensures { λ _. ⌜ now (links .exit) ≡ laidInto p (entriesOf p) (now (links .entry)) ⌝ }
+{
+    if !tables_ok(p) {
+        return 10;
+    }
+    tank_links::lay_out(p, begins, middles, links);
+    0
+}
+
+// Closing by a table that is handed in, and 10 also where it is not the one laid out.
+pub fn update_tank_links_by<'a>(
+    p: Project,
+    s: State,
+    begins: &'a [u32; 257],
+    middles: &'a [u32; 256],
+    links: &'a [u32; 768],
+) -> Called
+    ensures { λ r. ⌜ r ≡ tankLinksBy p (now (begins .entry)) (now (middles .entry)) (now (links .entry)) s ⌝ }
+{
+    if !in_order(p, s) {
+        return Called {
+            number: 10,
+            state: s,
+        };
+    }
+    if !tank_links::is_laid_out(p, begins, middles, links) {
+        return Called {
+            number: 10,
+            state: s,
+        };
+    }
+    let state = solver::update_tank_links_by(p, s, begins, middles, links);
     Called {
         number: 0,
         state: state,

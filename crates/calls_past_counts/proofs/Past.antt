@@ -23,11 +23,12 @@ use Rattle.state.specs.Patterns.{applyPatterns}
 use Rattle.state.specs.Controls.{applyControls}
 use Rattle.state.specs.Tanks.{updateTanks}
 use Rattle.load.specs.Loads.{loadFault, loadFlows, takeLoad}
+use Rattle.tank_links.specs.Groups.{isLaidOut}
 use Rattle.solver.specs.Closing.{closeLinks, updateTankLinks}
 use Rattle.solver.specs.Pressure.{applyPressureControls}
 use Rattle.solver.specs.declared.pressure.Pressed.{Pressed}
 use Rattle.simulation.specs.Steps.{lengthOf, movedBy, nextHydraulicTimestep}
-use Rattle.calls.specs.Calls.{gives, judged, patterns, controls, load, tankLinks, pressure, step}
+use Rattle.calls.specs.Calls.{gives, judged, patterns, controls, load, tankLinks, tankLinksBy, pressure, step}
 use Rattle.calls.specs.declared.Called.{Called}
 use Rattle.calls.specs.declared.PressureCalled.{PressureCalled}
 use Rattle.calls.specs.declared.StepCalled.{StepCalled}
@@ -135,6 +136,14 @@ load-past p words s = judged-past p s _ (λ fit. go (eqb (loadFault p words) 0))
 pub tank-links-past : (p : Project) (s : State) → SamePast p s (tankLinks p s .state)
 unfolding tankLinks
 tank-links-past p s = judged-past p s _ (λ fit. update-tank-links-past p s)
+
+pub tank-links-by-past : (p : Project) (begins middles links : List ℕ) (s : State) → SamePast p s (tankLinksBy p begins middles links s .state)
+unfolding tankLinksBy
+tank-links-by-past p begins middles links s = judged-past p s _ (λ fit. go (isLaidOut p begins middles links))
+  where
+    go : (b : Bool) → SamePast p s (cond b (gives 0 (updateTankLinks p s)) (gives 10 s) .state)
+    go true = update-tank-links-past p s
+    go false = same p s
 
 pub pressure-past : (p : Project) (s : State) → SamePast p s (pressure p s .state)
 unfolding pressure

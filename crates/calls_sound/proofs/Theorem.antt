@@ -1,5 +1,5 @@
--- Soundness, of the public calls: a start that is not refused is in order; from a state in order every call leads to a state in order, and only loads and
--- premises can be refused. Assumes nothing.
+-- Soundness, of the public calls: a start that is not refused is in order; from a state in order every call leads to a state in order, and only loads,
+-- premises and closing by a table that is not the one laid out can be refused. Assumes nothing.
 use mathlib.Core.Path.{_≡_, refl, sym, _∙_}
 use mathlib.Core.Bool.{Bool, true, false, _&&_, cond}
 use mathlib.Core.List.{List}
@@ -20,7 +20,9 @@ use Rattle.judge.proofs.Fits.{state-fit, state-ok}
 use Rattle.state.specs.Start.{newWithInitialValues}
 use Rattle.state.specs.Tanks.{updateTanks}
 use Rattle.load.specs.Loads.{loadFault, takeLoad}
-use Rattle.calls.specs.Calls.{gives, start, judged, patterns, controls, load, tankLinks, pressure, premise, premiseNumber}
+use Rattle.tank_links.specs.Groups.{isLaidOut}
+use Rattle.solver.specs.Closing.{updateTankLinks}
+use Rattle.calls.specs.Calls.{gives, start, judged, patterns, controls, load, tankLinks, tankLinksBy, pressure, premise, premiseNumber}
 use Rattle.premise.specs.Premise.{premiseTruthAt}
 use Rattle.calls.specs.declared.Called.{Called}
 use Rattle.calls.specs.declared.PremiseAnswer.the-variants.{Truth, Refused}
@@ -86,6 +88,23 @@ module _ (p : Project) (s : State) (e : inOrder p s ≡ true) where
   pub tank-links-accepted : tankLinks p s .number ≡ 0
   unfolding tankLinks
   tank-links-accepted = rw (judged-is p s _ e)
+
+  -- by a table that is handed in: refused, the state is as it is
+  pub tank-links-by-in-order : (begins middles links : List ℕ) → inOrder p (tankLinksBy p begins middles links s .state) ≡ true
+  unfolding tankLinksBy
+  tank-links-by-in-order begins middles links = rw (judged-is p s _ e) (go (isLaidOut p begins middles links))
+    where
+      go : (b : Bool) → inOrder p (cond b (gives 0 (updateTankLinks p s)) (gives 10 s) .state) ≡ true
+      go true = kept p s _ e (λ t o. tank-links-kept t o)
+      go false = e
+
+  pub tank-links-by-number : (begins middles links : List ℕ) → tankLinksBy p begins middles links s .number ≡ cond (isLaidOut p begins middles links) 0 10
+  unfolding tankLinksBy
+  tank-links-by-number begins middles links = rw (judged-is p s _ e) (go (isLaidOut p begins middles links))
+    where
+      go : (b : Bool) → cond b (gives 0 (updateTankLinks p s)) (gives 10 s) .number ≡ cond b 0 10
+      go true = refl
+      go false = refl
 
   pub pressure-in-order : inOrder p (pressure p s .state) ≡ true
   unfolding pressure

@@ -33,9 +33,10 @@ use Rattle.second_clock.specs.SecondClock as secondClock
 use Rattle.second_clock.specs.SecondClock.{secondApplies}
 use Rattle.second_clock.proofs.Laws.{second-number, second-in-order}
 use Rattle.second_clock.proofs.Same.{second-is-step}
-use Rattle.list_words.specs.Calls.{Call, patterns, controls, load, tankLinks, pressure, premise, step, second, isStep}
+use Rattle.list_words.specs.Calls.{Call, patterns, controls, load, tankLinks, pressure, premise, step, second, tankLinksByTable, isStep}
 use Rattle.demand3.specs.Calls.{asked, outcome}
 use Rattle.demand3.specs.Machine.{MayGive, machine}
+use Rattle.demand3.proofs.OwnTable.{by-own-table}
 use Rattle.demand3.proofs.Quiet.{quiet, start-quiet}
 
 -- ---- the numbers
@@ -73,6 +74,7 @@ may-give p pressure s e = pressure-accepted p s e
 may-give p (premise i) s e = zero-or-nine _ (ltb i (p .counts .premises)) (asked-number (calls.premise p i s) s ∙ premise-number p s e i)
 may-give p step s e = step-accepted p s e
 may-give p second s e = second-number p s e
+may-give p tankLinksByTable s e = rw (by-own-table p s) (tank-links-accepted p s e)
 
 -- ---- order
 stays : (p : Project) (c : Call) (s : State) → inOrder p s ≡ true → inOrder p (outcome p c s .state) ≡ true
@@ -85,6 +87,7 @@ stays p pressure s e = pressure-in-order p s e
 stays p (premise i) s e = ap (inOrder p) (asked-state (calls.premise p i s) s) ∙ e
 stays p step s e = step-in-order p s e
 stays p second s e = second-in-order p s e
+stays p tankLinksByTable s e = rw (by-own-table p s) (tank-links-in-order p s e)
 
 -- ---- the step
 abbrev hand : Clock → ℕ → Bool → Clock
@@ -127,6 +130,7 @@ steps p step s e q =
 steps p second s e q =
     let k = stepping p s e (secondClock.second p s) (second-is-step p q s e) in
     record { length = k .0; instant = k .1; count = k .2 }
+steps p tankLinksByTable s e q = absurd (true≢false (sym q))
 
 pub lawful : (p : Project) → Lawful (machine p) (timesOf p) (triggersOf p)
 lawful p = record {

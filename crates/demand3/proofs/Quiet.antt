@@ -24,8 +24,9 @@ use Rattle.calls.specs.declared.PremiseAnswer.the-variants.{Truth, Refused}
 use Rattle.calls.specs.declared.PressureCalled.{PressureCalled}
 use Rattle.second_clock.specs.SecondClock.{secondApplies}
 use Rattle.second_clock.proofs.Laws.{second-refused}
-use Rattle.list_words.specs.Calls.{Call, patterns, controls, load, tankLinks, pressure, premise, step, second, isStep}
+use Rattle.list_words.specs.Calls.{Call, patterns, controls, load, tankLinks, pressure, premise, step, second, tankLinksByTable, isStep}
 use Rattle.demand3.specs.Calls.{asked, outcome}
+use Rattle.demand3.proofs.OwnTable.{by-own-table}
 
 -- ---- the functions behind the calls
 patterns-quiet : (p : Project) (s : State) → applyPatterns p s .clock ≡ s .clock
@@ -88,3 +89,4 @@ quiet p pressure s e = pressed-quiet p s (inOrder p s)
 quiet p (premise i) s e = asked-quiet (calls.premise p i s) s
 quiet p step s e = absurd (true≢false e)
 quiet p second s e = ap (λ (u : State). u .clock) (second-refused p s e .1)
+quiet p tankLinksByTable s e = rw (by-own-table p s) (judged-quiet p s _ (closing-quiet p s))

@@ -1,7 +1,9 @@
 -- What a call of a list answers, and the state that it leaves.
 use mathlib.Core.Bool.{false}
+use lib.ListN.{replicate}
 use Rattle.model.specs.declared.project.Project.{Project}
 use Rattle.model.specs.declared.state.State.{State}
+use Rattle.tank_links.specs.Groups.{beginsOf, middlesOf, entriesOf}
 use Rattle.calls.specs.Calls as calls
 use Rattle.calls.specs.declared.Called.{Called}
 use Rattle.calls.specs.declared.PressureCalled.{PressureCalled}
@@ -9,7 +11,7 @@ use Rattle.calls.specs.declared.StepCalled.{StepCalled}
 use Rattle.calls.specs.declared.PremiseAnswer.{PremiseAnswer}
 use Rattle.calls.specs.declared.PremiseAnswer.the-variants.{Truth, Refused}
 use Rattle.second_clock.specs.SecondClock as secondClock
-use Rattle.list_words.specs.Calls.{Call, patterns, controls, load, tankLinks, pressure, premise, step, second}
+use Rattle.list_words.specs.Calls.{Call, patterns, controls, load, tankLinks, pressure, premise, step, second, tankLinksByTable}
 use Rattle.demand3.specs.declared.Outcome.{Outcome}
 
 -- the number and the state, of a call that answers no more
@@ -28,6 +30,15 @@ pressed c = record { number = c .number; length = 0; truth = c .changed; state =
 abbrev pub stepped : StepCalled → Outcome
 stepped c = record { number = c .number; length = c .length; truth = false; state = c .state }
 
+-- closing by the table that is laid out for it, into arrays of 0
+unfoldable pub byOwnTable : Project → State → Called
+byOwnTable p s =
+    calls.tankLinksBy p
+    (calls.laidInto p (beginsOf p) (replicate 257 0))
+    (calls.laidInto p (middlesOf p) (replicate 256 0))
+    (calls.laidInto p (entriesOf p) (replicate 768 0))
+    s
+
 -- what the public calls answer. `length` is a step's, `truth` a premise's, or whether the pressure pass changed anything.
 unfoldable pub outcome : Project → Call → State → Outcome
 outcome p patterns s = called (calls.patterns p s)
@@ -38,3 +49,4 @@ outcome p pressure s = pressed (calls.pressure p s)
 outcome p (premise i) s = asked (calls.premise p i s) s
 outcome p step s = stepped (calls.step p s)
 outcome p second s = stepped (secondClock.second p s)
+outcome p tankLinksByTable s = called (byOwnTable p s)

@@ -14,7 +14,7 @@ use Rattle.simulation.specs.Steps.{Level, timesOf, triggersOf, momentOf}
 use Rattle.calls.specs.Calls.{start}
 use Rattle.second_clock.specs.SecondClock.{secondApplies}
 use Rattle.stops_ahead.specs.Foreseen.{stopsForeseen}
-use Rattle.list_words.specs.Calls.{Call, patterns, controls, load, tankLinks, pressure, premise, step, second, isStep}
+use Rattle.list_words.specs.Calls.{Call, patterns, controls, load, tankLinks, pressure, premise, step, second, tankLinksByTable, isStep}
 use Rattle.demand3.specs.Calls.{outcome}
 
 -- "Only loads and premises can be refused there": a load with 7 or 8, a premise with 9. Document 02, R-10, "in lists where 14 may come too": the second
@@ -28,6 +28,7 @@ MayGive p pressure n = n ≡ 0
 MayGive p (premise i) n = (n ≡ 0) ⊎ (n ≡ 9)
 MayGive p step n = n ≡ 0
 MayGive p second n = n ≡ cond (secondApplies p) 0 14
+MayGive p tankLinksByTable n = n ≡ 0
 
 abbrev pub machine : Project → Machine Level
 machine p = record {

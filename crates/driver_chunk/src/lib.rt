@@ -1,13 +1,19 @@
 // The driver's run in chunks: each takes some bytes of the input and fills a buffer with lines, as many turns as the input and the room allow.
-// The functions behind `advance` demand a state in order, and `advance` judges it, once a chunk; by soundness every turn leaves it so.
+// The functions behind `advance` demand a state in order and the table of the tanks' links. `advance` judges the one and lays out the other,
+// once a chunk; by soundness every turn leaves a state in order.
 ghost use mathlib.Core.Path.{_≡_};
 ghost use mathlib.Core.Bool.{true};
 ghost use Rattle.judge.specs.Judgement.{inOrder};
+ghost use Rattle.tank_links.specs.Groups.{isLaidOut};
 ghost use Rattle.driver_chunk.specs.Chunks.{wantsInput, canTurn, TurnsRan, Advanced};
 use driver_load::load_words;
 use driver_turn::turn;
 use judge::in_order;
 use model::*;
+use tank_links::lay_out;
+use tank_links::no_entries;
+use tank_links::no_middles;
+use tank_links::no_places;
 
 // The number of the refusal, 0 where there is none; the state after the turns; how many bytes of the input they took and of the buffer they
 // filled; whether the run is over; and how many bytes the next turn waits for, 0 where it waits for none.
@@ -50,8 +56,18 @@ fn can_turn(over: bool, wants: usize, room: usize) -> bool
 }
 
 // The turns of a chunk.
-fn run(p: Project, s: State, input: &[u8], whole: bool, out: &mut [u8]) -> Chunk
+fn run<'a>(
+    p: Project,
+    s: State,
+    begins: &'a [u32; 257],
+    middles: &'a [u32; 256],
+    links: &'a [u32; 768],
+    input: &[u8],
+    whole: bool,
+    out: &mut [u8],
+) -> Chunk
     requires { ⌜ inOrder p s ≡ true ⌝ }
+    requires { ⌜ isLaidOut p (now begins) (now middles) (now links) ≡ true ⌝ }
     ensures { λ r. ⌜ TurnsRan p s (now (input .entry)) whole (now (out .entry)) (now (out .exit)) r ⌝ }
 {
     let size = load_words(p) * 4;
@@ -62,7 +78,16 @@ fn run(p: Project, s: State, input: &[u8], whole: bool, out: &mut [u8]) -> Chunk
     let mut over = false;
     let mut wants = wants_input(duration, state.clock.instant, whole, input.len(), size);
     while can_turn(over, wants, out.len() - written) {
-        let t = turn(p, state, &input[used..], out, written);
+        let t = turn(
+            p,
+            state,
+            begins,
+            middles,
+            links,
+            &input[used..],
+            out,
+            written,
+        );
         state = t.state;
         used += t.taken;
         written = t.at;
@@ -99,5 +124,9 @@ pub fn advance(p: Project, s: State, input: &[u8], whole: bool, out: &mut [u8]) 
             wants: 0,
         };
     }
-    run(p, s, input, whole, out)
+    let mut begins = no_places();
+    let mut middles = no_middles();
+    let mut links = no_entries();
+    lay_out(p, &mut begins, &mut middles, &mut links);
+    run(p, s, &begins, &middles, &links, input, whole, out)
 }

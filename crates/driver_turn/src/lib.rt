@@ -1,10 +1,11 @@
 // One turn of the driver: patterns, controls, a load if any is left, closing and the step, and its line. The functions demand a state in
-// order, and a turn leaves one; whoever makes turns judges it once.
+// order, and a turn leaves one, and the table of the tanks' links: whoever makes turns judges the one and lays out the other once.
 ghost use mathlib.Core.Path.{_≡_};
 ghost use mathlib.Core.Bool.{true};
 ghost use Prim.Native.Nat.{_+_, _≤_};
 ghost use lib.ListN.{length};
 ghost use Rattle.judge.specs.Judgement.{inOrder};
+ghost use Rattle.tank_links.specs.Groups.{isLaidOut};
 ghost use Rattle.driver_turn.specs.Turns.{prepared, stepTurn, finishedTurn, refusedTurn, inputTurn, turn};
 ghost use Rattle.driver_turn.specs.Turned.{TurnedAs};
 use driver_load::load_from;
@@ -57,12 +58,22 @@ fn refused_turn(s: State, number: u32, out: &mut [u8], at: usize) -> Turned
 }
 
 // Closing and the step, with its line.
-fn step_turn(p: Project, s: State, taken: usize, out: &mut [u8], at: usize) -> Turned
+fn step_turn<'a>(
+    p: Project,
+    s: State,
+    begins: &'a [u32; 257],
+    middles: &'a [u32; 256],
+    links: &'a [u32; 768],
+    taken: usize,
+    out: &mut [u8],
+    at: usize,
+) -> Turned
     requires { ⌜ inOrder p s ≡ true ⌝ }
+    requires { ⌜ isLaidOut p (now begins) (now middles) (now links) ≡ true ⌝ }
     requires { ⌜ at + 22 ≤ length (now out) ⌝ }
     ensures { λ r. ⌜ TurnedAs (stepTurn p s taken) at (now (out .entry)) (now (out .exit)) r ⌝ }
 {
-    let closed = solver::update_tank_links(p, s);
+    let closed = solver::update_tank_links_by(p, s, begins, middles, links);
     let t = simulation::next_hydraulic_timestep(p, closed);
     let end = listing::put_step_line(out, at, closed.clock.instant, t.length);
     let state = t.state;
@@ -75,13 +86,23 @@ fn step_turn(p: Project, s: State, taken: usize, out: &mut [u8], at: usize) -> T
 }
 
 // A load if any is left, and the step.
-fn input_turn(p: Project, s: State, bytes: &[u8], out: &mut [u8], at: usize) -> Turned
+fn input_turn<'a>(
+    p: Project,
+    s: State,
+    begins: &'a [u32; 257],
+    middles: &'a [u32; 256],
+    links: &'a [u32; 768],
+    bytes: &[u8],
+    out: &mut [u8],
+    at: usize,
+) -> Turned
     requires { ⌜ inOrder p s ≡ true ⌝ }
+    requires { ⌜ isLaidOut p (now begins) (now middles) (now links) ≡ true ⌝ }
     requires { ⌜ at + 22 ≤ length (now out) ⌝ }
     ensures { λ r. ⌜ TurnedAs (inputTurn p s (now (bytes .entry))) at (now (out .entry)) (now (out .exit)) r ⌝ }
 {
     if bytes.len() == 0 {
-        return step_turn(p, s, 0, out, at);
+        return step_turn(p, s, begins, middles, links, 0, out, at);
     }
     let size = load_words(p) * 4;
     if bytes.len() < size {
@@ -91,14 +112,24 @@ fn input_turn(p: Project, s: State, bytes: &[u8], out: &mut [u8], at: usize) -> 
     let number = answer.number;
     let state = answer.state;
     if number == 0 {
-        return step_turn(p, state, size, out, at);
+        return step_turn(p, state, begins, middles, links, size, out, at);
     }
     refused_turn(state, number, out, at)
 }
 
 // One turn.
-pub fn turn(p: Project, s: State, bytes: &[u8], out: &mut [u8], at: usize) -> Turned
+pub fn turn<'a>(
+    p: Project,
+    s: State,
+    begins: &'a [u32; 257],
+    middles: &'a [u32; 256],
+    links: &'a [u32; 768],
+    bytes: &[u8],
+    out: &mut [u8],
+    at: usize,
+) -> Turned
     requires { ⌜ inOrder p s ≡ true ⌝ }
+    requires { ⌜ isLaidOut p (now begins) (now middles) (now links) ≡ true ⌝ }
     requires { ⌜ at + 22 ≤ length (now out) ⌝ }
     ensures { λ r. ⌜ TurnedAs (turn p s (now (bytes .entry))) at (now (out .entry)) (now (out .exit)) r ⌝ }
 {
@@ -108,5 +139,5 @@ pub fn turn(p: Project, s: State, bytes: &[u8], out: &mut [u8], at: usize) -> Tu
         return finished_turn(s, out, at);
     }
     let ready = prepared(p, s);
-    input_turn(p, ready, bytes, out, at)
+    input_turn(p, ready, begins, middles, links, bytes, out, at)
 }

@@ -1,11 +1,13 @@
-// Every call asked on tables and a state, and its number printed.
+// Every call asked on tables, a state and a table of the tanks' links, and its number printed.
+use crate::groups::TankLinks;
+use crate::groups::lay_out_number;
 use calls::PremiseAnswer;
 use libc::STDOUT_FILENO;
 use model::*;
 use stops_ahead::StopAnswer;
 use stops_ahead::next_stop;
 
-fn print(n: u32) {
+pub fn print(n: u32) {
     io::write_all(STDOUT_FILENO, b" ");
     io::print_decimal(STDOUT_FILENO, n as u64);
 }
@@ -55,9 +57,20 @@ fn print_after_load(p: Project, s: State) {
     print(slow.number);
 }
 
-pub fn print_numbers(p: Project, s: State) {
+// Laying the table out, and closing by the one that is handed in.
+fn print_by_table(p: Project, s: State, t: TankLinks) {
+    print(lay_out_number(p));
+    let begins = t.begins;
+    let middles = t.middles;
+    let links = t.links;
+    let close = calls::update_tank_links_by(p, s, &begins, &middles, &links);
+    print(close.number);
+}
+
+pub fn print_numbers(p: Project, s: State, t: TankLinks) {
     print_up_to_load(p, s);
     print_after_load(p, s);
     print_stop(next_stop(p, s.clock.instant));
+    print_by_table(p, s, t);
     io::write_all(STDOUT_FILENO, b"\n");
 }

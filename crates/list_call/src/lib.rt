@@ -4,7 +4,7 @@ ghost use Prim.Native.Nat.{_+_, _≤_};
 ghost use lib.ListN.{length, take, drop};
 ghost use Rattle.image_entry.specs.Words.{word as wordOf};
 ghost use Rattle.calls.specs.Calls.{load};
-ghost use Rattle.demand3.specs.Calls.{called, pressed, stepped, asked};
+ghost use Rattle.demand3.specs.Calls.{called, pressed, stepped, asked, byOwnTable};
 ghost use Rattle.list_call.specs.FirstCall.{firstCall};
 use calls::Called;
 use calls::PremiseAnswer;
@@ -14,6 +14,9 @@ use demand3::Outcome;
 use image_entry::word;
 use list_words::call_ok;
 use model::*;
+use tank_links::no_entries;
+use tank_links::no_middles;
+use tank_links::no_places;
 
 fn called(c: Called) -> Outcome
     ensures { λ r. ⌜ r ≡ called c ⌝ }
@@ -79,6 +82,17 @@ fn load_call(p: Project, s: State, words: &[u32]) -> Called
     calls::take_load(p, s, &words[2..to])
 }
 
+// Closing by the table, laid out for it.
+fn close_by_table(p: Project, s: State) -> Called
+    ensures { λ r. ⌜ r ≡ byOwnTable p s ⌝ }
+{
+    let mut begins = no_places();
+    let mut middles = no_middles();
+    let mut links = no_entries();
+    calls::lay_out_tank_links(p, &mut begins, &mut middles, &mut links);
+    calls::update_tank_links_by(p, s, &begins, &middles, &links)
+}
+
 // What the first call of some words answers, and the state that it leaves; 18 and the same state where they begin with no call.
 pub fn first_call(p: Project, s: State, words: &[u32]) -> Outcome
     ensures { λ r. ⌜ r ≡ firstCall p (now (words .entry)) s ⌝ }
@@ -114,5 +128,8 @@ pub fn first_call(p: Project, s: State, words: &[u32]) -> Outcome
     if code == 7 {
         return stepped(calls::next_hydraulic_timestep(p, s));
     }
-    stepped(second_clock::step_by_seconds(p, s))
+    if code == 8 {
+        return stepped(second_clock::step_by_seconds(p, s));
+    }
+    called(close_by_table(p, s))
 }

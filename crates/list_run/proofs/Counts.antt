@@ -24,7 +24,7 @@ use Rattle.calls.specs.declared.PremiseAnswer.the-variants.{Truth, Refused}
 use Rattle.image.proofs.Turns.{rest}
 use Rattle.second_clock.specs.SecondClock.{secondApplies}
 use Rattle.second_clock.proofs.Laws.{second-refused}
-use Rattle.list_words.specs.Calls.{Call, patterns, controls, load, tankLinks, pressure, premise, step, second, isStep}
+use Rattle.list_words.specs.Calls.{Call, patterns, controls, load, tankLinks, pressure, premise, step, second, tankLinksByTable, isStep}
 use Rattle.list_words.specs.Lists.{callOf, callLength, callOk, callsOf, listOk}
 use Rattle.list_words.proofs.Lists.{calls-here, ok-here, fits-here, calls-end}
 use Rattle.demand3.specs.Calls.{asked as askedOf, outcome}
@@ -51,6 +51,7 @@ length-quiet p pressure s e = refl
 length-quiet p (premise i) s e = asked-length (calls.premise p i s) s
 length-quiet p step s e = absurd (true≢false e)
 length-quiet p second s e = second-refused p s e .0
+length-quiet p tankLinksByTable s e = refl
 
 abbrev moveOf : ℕ → ℕ → ℕ
 moveOf after before = bit (not (eqb after before))

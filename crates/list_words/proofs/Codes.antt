@@ -5,12 +5,12 @@ use mathlib.Core.Path.{_≡_, refl, sym, ap, _∙_}
 use mathlib.Core.Bool.{Bool, true, false, _&&_, _||_}
 use mathlib.Core.List.{List, [], _∷_}
 use native.Mathlib.Omega.{arith}
-use borrow.Author.Tests.{ne-eqb, le-leb, lt-leb}
-use lib.Dec.{eqb, leb}
+use borrow.Author.Tests.{ne-eqb, le-leb}
+use lib.Dec.{eqb}
 use lib.ListN.{length, take, drop}
-use Rattle.clock.proofs.Tests.{eqb-ind, leb-ind}
+use Rattle.clock.proofs.Tests.{eqb-ind}
 use Rattle.image_entry.specs.Words.{word}
-use Rattle.list_words.specs.Calls.{patterns, controls, load, tankLinks, pressure, premise, step, second, isStep}
+use Rattle.list_words.specs.Calls.{patterns, controls, load, tankLinks, pressure, premise, step, second, tankLinksByTable, isStep}
 use Rattle.list_words.specs.Lists.{callOf, callLength, callOk, asksStep}
 
 module _ (words : List ℕ) (code : ℕ) (is : code ≡ word words 0) where
@@ -42,9 +42,15 @@ module _ (words : List ℕ) (code : ℕ) (is : code ≡ word words 0) where
   unfolding callOf
   code-7 e = rw (← is, e)
 
-  pub code-8 : (code ≡ 1 → ⊥) → (code ≡ 2 → ⊥) → (code ≡ 3 → ⊥) → (code ≡ 4 → ⊥) → (code ≡ 5 → ⊥) → (code ≡ 6 → ⊥) → (code ≡ 7 → ⊥) → callOf words ≡ second
+  pub code-8 : code ≡ 8 → callOf words ≡ second
   unfolding callOf
-  code-8 a b c d e f g = rw (← is, ne-eqb code 1 a, ne-eqb code 2 b, ne-eqb code 3 c, ne-eqb code 4 d, ne-eqb code 5 e, ne-eqb code 6 f, ne-eqb code 7 g)
+  code-8 e = rw (← is, e)
+
+  pub code-9 :
+      (code ≡ 1 → ⊥) → (code ≡ 2 → ⊥) → (code ≡ 3 → ⊥) → (code ≡ 4 → ⊥) → (code ≡ 5 → ⊥) → (code ≡ 6 → ⊥) → (code ≡ 7 → ⊥) → (code ≡ 8 → ⊥)
+      → callOf words ≡ tankLinksByTable
+  unfolding callOf
+  code-9 a b c d e f g h = rw (← is, ne-eqb code 1 a, ne-eqb code 2 b, ne-eqb code 3 c, ne-eqb code 4 d, ne-eqb code 5 e, ne-eqb code 6 f, ne-eqb code 7 g, ne-eqb code 8 h)
 
 -- ---- which asks for a step
 none-quiet : (b : Bool) → (b && false) ≡ false
@@ -59,17 +65,6 @@ some-word (w ∷ ws) l = omega arith
 pub past-four : (code : ℕ) → 1 ≤ code → (code ≡ 1 → ⊥) → (code ≡ 2 → ⊥) → (code ≡ 3 → ⊥) → (code ≡ 4 → ⊥) → 5 ≤ code
 past-four code l a b c d = omega arith
 
-past-eight : (code : ℕ) → 5 ≤ code → (code ≡ 5 → ⊥) → (code ≡ 6 → ⊥) → (code ≡ 7 → ⊥) → (code ≡ 8 → ⊥) → 8 < code
-past-eight code l a b c d = omega arith
-
-no-code :
-    (code : ℕ) (rest : Bool) → (code ≡ 1 → ⊥) → (code ≡ 2 → ⊥) → (code ≡ 3 → ⊥) → (code ≡ 4 → ⊥) → (code ≡ 5 → ⊥) → (code ≡ 6 → ⊥) → (code ≡ 7 → ⊥) → (code ≡ 8 → ⊥)
-    → (leb 1 code && leb code 8 && rest) ≡ false
-no-code code rest a b c d e f g h =
-    leb-ind (λ k. (k && leb code 8 && rest) ≡ false) 1 code
-    (λ l. rw (lt-leb code 8 (past-eight code (past-four code l a b c d) e f g h)))
-    (λ l. refl)
-
 module _ (serves : Bool) (words : List ℕ) (code : ℕ) (is : code ≡ word words 0) where
   step-asked : code ≡ 7 → asksStep serves words ≡ true
   unfolding asksStep callOk callLength callOf
@@ -79,16 +74,10 @@ module _ (serves : Bool) (words : List ℕ) (code : ℕ) (is : code ≡ word wor
   unfolding asksStep callOk callLength callOf
   second-asked e = rw (← is, e, le-leb 1 (length words) (some-word words (omega (arith, is, e))))
 
-  no-call :
-      (code ≡ 1 → ⊥) → (code ≡ 2 → ⊥) → (code ≡ 3 → ⊥) → (code ≡ 4 → ⊥) → (code ≡ 5 → ⊥) → (code ≡ 6 → ⊥) → (code ≡ 7 → ⊥) → (code ≡ 8 → ⊥)
-      → callOk words ≡ false
-  unfolding callOk
-  no-call a b c d e f g h = rw (← is) (no-code code _ a b c d e f g h)
-
   abbrev ByCode : Type 0
   ByCode = asksStep serves words ≡ (eqb code 7 || (eqb code 8 && serves))
 
-  -- a step's code asks for one, the second clock's where it serves, and another for none: it is another call's, or no call's
+  -- a step's code asks for one, the second clock's where it serves, and another for none: it is read as another call's
   pub asked-by-code : ByCode
   unfolding asksStep
   asked-by-code =
@@ -101,7 +90,7 @@ module _ (serves : Bool) (words : List ℕ) (code : ℕ) (is : code ≡ word wor
       (λ c. eqb-ind (λ k. asksStep serves words ≡ false) code 4 (λ e. quiet (ap (isStep serves) (code-4 words code is e)))
       (λ d. eqb-ind (λ k. asksStep serves words ≡ false) code 5 (λ e. quiet (ap (isStep serves) (code-5 words code is e)))
       (λ f. eqb-ind (λ k. asksStep serves words ≡ false) code 6 (λ e. quiet (ap (isStep serves) (code-6 words code is e)))
-      (λ k. ap (λ w. w && isStep serves (callOf words)) (no-call a b c d f k g h))))))))))
+      (λ k. quiet (ap (isStep serves) (code-9 words code is a b c d f k g h)))))))))))
     where
       quiet : isStep serves (callOf words) ≡ false → asksStep serves words ≡ false
       quiet e = ap (λ b. callOk words && b) e ∙ none-quiet (callOk words)

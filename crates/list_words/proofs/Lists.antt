@@ -25,7 +25,7 @@ length-some words = go (eqb (word words 0) 3) (eqb (word words 0) 6)
 
 pub ok-whole : (words : List ℕ) → callOk words ≡ true → callLength words ≤ length words
 unfolding callOk
-ok-whole words e = leb-true _ _ (both-right (leb 1 (word words 0) && leb (word words 0) 8) _ e)
+ok-whole words e = leb-true _ _ (both-right (leb 1 (word words 0) && leb (word words 0) 9) _ e)
 
 -- a load that is not cut has the words that it counts
 load-length : (words : List ℕ) (code : ℕ) → code ≡ word words 0 → code ≡ 3 → callLength words ≡ 2 + word words 1

@@ -5,10 +5,10 @@ use mathlib.Core.List.{List, [], _∷_}
 use lib.Dec.{eqb, leb}
 use lib.ListN.{length, take, drop}
 use Rattle.image_entry.specs.Words.{word}
-use Rattle.list_words.specs.Calls.{Call, patterns, controls, load, tankLinks, pressure, premise, step, second, isStep}
+use Rattle.list_words.specs.Calls.{Call, patterns, controls, load, tankLinks, pressure, premise, step, second, tankLinksByTable, isStep}
 
 -- A call is a code and what it needs: 1 patterns, 2 controls, 3 load (then the count of its words, then the words, header and all), 4 tank-link
--- closing, 5 pressure pass, 6 premise (then its number), 7 step, 8 step by the second clock.
+-- closing, 5 pressure pass, 6 premise (then its number), 7 step, 8 step by the second clock, 9 closing by the table of the tanks' links.
 -- What words that are no call are read as counts for nothing: they are refused (`callOk`).
 unfoldable pub callOf : List ℕ → Call
 callOf words =
@@ -19,7 +19,8 @@ callOf words =
     (cond (eqb code 4) tankLinks
     (cond (eqb code 5) pressure
     (cond (eqb code 6) (premise (word words 1))
-    (cond (eqb code 7) step second))))))
+    (cond (eqb code 7) step
+    (cond (eqb code 8) second tankLinksByTable)))))))
 
 -- how many words the first call has
 unfoldable pub callLength : List ℕ → ℕ
@@ -31,7 +32,7 @@ callLength words =
 unfoldable pub callOk : List ℕ → Bool
 callOk words =
     let code = word words 0 in
-    leb 1 code && leb code 8 && leb (callLength words) (length words)
+    leb 1 code && leb code 9 && leb (callLength words) (length words)
 
 -- whether the first call is one, and asks for a step
 unfoldable pub asksStep : Bool → List ℕ → Bool

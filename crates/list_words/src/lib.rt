@@ -27,7 +27,7 @@ pub fn call_ok(words: &[u32]) -> bool
     if code < 1 {
         return false;
     }
-    if 8 < code {
+    if 9 < code {
         return false;
     }
     call_length(words) <= words.len()

@@ -109,9 +109,10 @@ module _ (code : ℕ) where
   unfolding nameText
   name-3 e = rw e
 
-  pub name-4 : code ≡ 4 → (99 ∷ 108 ∷ 111 ∷ 115 ∷ 101 ∷ 32 ∷ []) ≡ nameText code
+  -- closing, by the table or not
+  pub name-4 : (code ≡ 1 → ⊥) → (code ≡ 2 → ⊥) → (code ≡ 3 → ⊥) → (eqb code 4 || eqb code 9) ≡ true → (99 ∷ 108 ∷ 111 ∷ 115 ∷ 101 ∷ 32 ∷ []) ≡ nameText code
   unfolding nameText
-  name-4 e = rw e
+  name-4 a b c e = rw (ne-eqb code 1 a, ne-eqb code 2 b, ne-eqb code 3 c, e)
 
   pub name-5 : code ≡ 5 → (112 ∷ 114 ∷ 101 ∷ 115 ∷ 115 ∷ 117 ∷ 114 ∷ 101 ∷ 32 ∷ []) ≡ nameText code
   unfolding nameText
@@ -125,9 +126,9 @@ module _ (code : ℕ) where
   unfolding nameText
   name-7 e = rw e
 
-  pub name-8 : (code ≡ 1 → ⊥) → (code ≡ 2 → ⊥) → (code ≡ 3 → ⊥) → (code ≡ 4 → ⊥) → (code ≡ 5 → ⊥) → (code ≡ 6 → ⊥) → (code ≡ 7 → ⊥) → (115 ∷ 108 ∷ 111 ∷ 119 ∷ 32 ∷ []) ≡ nameText code
+  pub name-8 : (code ≡ 1 → ⊥) → (code ≡ 2 → ⊥) → (code ≡ 3 → ⊥) → (eqb code 4 || eqb code 9) ≡ false → (code ≡ 5 → ⊥) → (code ≡ 6 → ⊥) → (code ≡ 7 → ⊥) → (115 ∷ 108 ∷ 111 ∷ 119 ∷ 32 ∷ []) ≡ nameText code
   unfolding nameText
-  name-8 a b c d e f g = rw (ne-eqb code 1 a, ne-eqb code 2 b, ne-eqb code 3 c, ne-eqb code 4 d, ne-eqb code 5 e, ne-eqb code 6 f, ne-eqb code 7 g)
+  name-8 a b c d e f g = rw (ne-eqb code 1 a, ne-eqb code 2 b, ne-eqb code 3 c, d, ne-eqb code 5 e, ne-eqb code 6 f, ne-eqb code 7 g)
 
   pub name-short : length (nameText code) ≤ 9
   unfolding nameText
@@ -135,7 +136,7 @@ module _ (code : ℕ) where
       either-short 9 (eqb code 1) _ _ (omega arith)
       (either-short 9 (eqb code 2) _ _ (omega arith)
       (either-short 9 (eqb code 3) _ _ (omega arith)
-      (either-short 9 (eqb code 4) _ _ (omega arith)
+      (either-short 9 (eqb code 4 || eqb code 9) _ _ (omega arith)
       (either-short 9 (eqb code 5) _ _ (omega arith) (either-short 9 (eqb code 6) _ _ (omega arith) (either-short 9 (eqb code 7) _ _ (omega arith) (omega arith)))))))
 
 pub truth-true : (b : Bool) → b ≡ true → (116 ∷ 114 ∷ 117 ∷ 101 ∷ []) ≡ truthText b

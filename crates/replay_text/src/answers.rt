@@ -22,7 +22,7 @@ fn put_name(out: &mut [u8], at: usize, code: u32) -> usize
     if code == 3 {
         return put_text(out, at, b"load ");
     }
-    if code == 4 {
+    if (code == 4) | (code == 9) {
         return put_text(out, at, b"close ");
     }
     if code == 5 {

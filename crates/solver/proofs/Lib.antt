@@ -1,2 +1,4 @@
 -- Laws that belong to no one function.
-pub mod Tankwise
+pub mod Summed
+pub mod Closed
+pub mod ByTable

@@ -1,3 +1,3 @@
 pub mod Closing
-pub mod Passes
+pub mod ByTable
 pub mod Pressure

@@ -1,81 +1,119 @@
-// `update_tank_links`: links are closed link by link, and the tanks' demands summed up in two passes over the links.
+// `update_tank_links`, by the table of the tanks' links.
 ghost use mathlib.Core.Path.{_≡_};
+ghost use mathlib.Core.Bool.{true};
+ghost use Rattle.run_state.specs.Lists.{listsOf};
+ghost use Rattle.run_tables.specs.Held.{TanksInside};
+ghost use Rattle.run_tanks.specs.Closing.{GroupsInside};
 ghost use Rattle.tables.specs.Fit.{TablesFit};
-ghost use Rattle.solver.specs.Closing.{closeLinks, updateTankLinks};
-ghost use Rattle.solver.specs.Passes.{sumInto, sumOutOf};
+ghost use Rattle.tank_links.specs.Groups.{isLaidOut};
+ghost use Rattle.solver.specs.ByTable.{listsClosed};
+ghost use Rattle.solver.specs.Closing.{updateTankLinks};
 use model::*;
-use state::empty_tanks;
-use state_link::closed;
-use state_node::gained;
-use state_node::lost;
+use run_state::*;
+use run_tables::tank_table;
+use tank_links::*;
 
-fn close_links(p: Project, s: State) -> State
-    requires { ⌜ TablesFit p ⌝ }
-    ensures { λ r. ⌜ r ≡ closeLinks p s ⌝ }
+// Closing by the tables of a project's tanks and of their links: the state is unpacked, its statuses and its demands have a pass each, and it
+// is packed again.
+fn close_by<'a>(
+    nodes: &'a [usize; 256],
+    numbers: &'a [f64; 1280],
+    overflows: &'a [bool; 256],
+    begins: &'a [u32; 257],
+    middles: &'a [u32; 256],
+    links: &'a [u32; 768],
+    n: usize,
+    s: State,
+) -> State
+    requires { ⌜ TanksInside (now nodes) n ⌝ }
+    requires { ⌜ GroupsInside (now begins) (now middles) (now links) n ⌝ }
+    ensures { λ r. ⌜ listsOf r ≡ listsClosed (now (nodes .entry)) (now (numbers .entry)) (now (overflows .entry)) (now (begins .entry)) (now (middles .entry)) (now (links .entry)) n s ⌝ }
 {
-    let mut st = s;
-    let n = p.counts.links;
-    let mut i = 0;
-    while i < n {
-        let l = p.links[i];
-        let e = l.end;
-        let b = l.start;
-        st.links[i] = closed(
-            st.links[i],
-            p.nodes[e],
-            st.nodes[e],
-            p.nodes[b],
-            st.nodes[b],
-        );
-        i += 1;
+    let ns = s.nodes;
+    let ls = s.links;
+    let heads = heads_of(ns);
+    let mut demands = demands_of(ns);
+    let flows = flows_of(ls);
+    let mut statuses = statuses_of(ls);
+    let clock = s.clock;
+    run_tanks::close_links(
+        nodes,
+        numbers,
+        overflows,
+        begins,
+        middles,
+        links,
+        n,
+        &heads,
+        &flows,
+        &mut statuses,
+    );
+    run_tanks::sum_demands(nodes, begins, middles, links, n, &flows, &mut demands);
+    let summed = with_demands(ns, demands);
+    let closed = with_statuses(ls, statuses);
+    State {
+        nodes: summed,
+        links: closed,
+        clock: clock,
     }
-    st
 }
 
-// The flows of the links into tanks, in link order.
-fn sum_into(p: Project, s: State) -> State
+// Closing by a table that is the one laid out.
+pub fn update_tank_links_by<'a>(
+    p: Project,
+    s: State,
+    begins: &'a [u32; 257],
+    middles: &'a [u32; 256],
+    links: &'a [u32; 768],
+) -> State
     requires { ⌜ TablesFit p ⌝ }
-    ensures { λ r. ⌜ r ≡ sumInto p s ⌝ }
+    requires { ⌜ isLaidOut p (now begins) (now middles) (now links) ≡ true ⌝ }
+    ensures { λ r. ⌜ r ≡ updateTankLinks p s ⌝ }
 {
-    let mut st = s;
-    let n = p.counts.links;
-    let mut i = 0;
-    while i < n {
-        let l = p.links[i];
-        let x = st.links[i];
-        let flow = x.flow;
-        let e = l.end;
-        st.nodes[e] = gained(p.nodes[e], st.nodes[e], flow);
-        i += 1;
-    }
-    st
+    let ns = p.nodes;
+    let t = tank_table(ns, p.counts.nodes);
+    let n = t.count;
+    close_by(
+        &t.nodes,
+        &t.numbers,
+        &t.overflows,
+        begins,
+        middles,
+        links,
+        n,
+        s,
+    )
 }
 
-// The flows of the links out of tanks, in link order.
-fn sum_out_of(p: Project, s: State) -> State
-    requires { ⌜ TablesFit p ⌝ }
-    ensures { λ r. ⌜ r ≡ sumOutOf p s ⌝ }
-{
-    let mut st = s;
-    let n = p.counts.links;
-    let mut i = 0;
-    while i < n {
-        let l = p.links[i];
-        let x = st.links[i];
-        let flow = x.flow;
-        let b = l.start;
-        st.nodes[b] = lost(p.nodes[b], st.nodes[b], flow);
-        i += 1;
-    }
-    st
-}
-
+// Closing by the table laid out for it.
 pub fn update_tank_links(p: Project, s: State) -> State
     requires { ⌜ TablesFit p ⌝ }
     ensures { λ r. ⌜ r ≡ updateTankLinks p s ⌝ }
 {
-    let links = close_links(p, s);
-    let empty = empty_tanks(p, links);
-    let into = sum_into(p, empty);
-    sum_out_of(p, into)
+    let ns = p.nodes;
+    let ls = p.links;
+    let t = tank_table(ns, p.counts.nodes);
+    let n = t.count;
+    let mut begins = no_places();
+    let mut middles = no_middles();
+    let mut links = no_entries();
+    lay_groups(
+        ls,
+        p.counts.links,
+        &t.nodes,
+        n,
+        &mut begins,
+        &mut middles,
+        &mut links,
+    );
+    close_by(
+        &t.nodes,
+        &t.numbers,
+        &t.overflows,
+        &begins,
+        &middles,
+        &links,
+        n,
+        s,
+    )
 }

@@ -119,6 +119,11 @@ impl Progress {
         doorway::update_tank_links(&self.solver, network, state);
     }
 
+    /// Closing by the table of the tanks' links: it "gives the same bits", so it is the reference's own.
+    pub fn close_by_table(&mut self) {
+        self.close();
+    }
+
     pub fn pressure(&mut self) -> bool {
         let (network, state) = parts(&mut self.simulation);
         doorway::apply_pressure_controls(&self.solver, network, state)

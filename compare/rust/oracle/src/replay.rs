@@ -2,11 +2,12 @@
 
 use std::io::{self, Write};
 
+use crate::image::Fault;
 use crate::input::Input;
 use crate::progress::Progress;
 
-/// Why a list of calls could not be read on. Lists are made by programs, so this stops the run.
-const BROKEN_LIST: &str = "the list of calls is cut or holds an unknown code";
+/// "A list of calls is cut, or has a code" that no call has.
+const BROKEN_LIST: Fault = 18;
 
 pub fn replay(bytes: &[u8], out: &mut impl Write) -> io::Result<()> {
     let mut input = Input::new(bytes);
@@ -17,48 +18,54 @@ pub fn replay(bytes: &[u8], out: &mut impl Write) -> io::Result<()> {
     let mut progress = Progress::start(&project);
     write!(out, "start ok")?;
     end_line(&progress, out)?;
-    let calls = input.word().expect(BROKEN_LIST);
+    let Some(calls) = input.word() else { return writeln!(out, "refused {BROKEN_LIST}") };
     for _ in 0..calls {
-        call(&mut progress, &mut input, out)?;
+        let Some(answer) = call(&mut progress, &mut input) else { return writeln!(out, "refused {BROKEN_LIST}") };
+        write!(out, "{answer}")?;
         end_line(&progress, out)?;
     }
     Ok(())
 }
 
-fn call(progress: &mut Progress, input: &mut Input, out: &mut impl Write) -> io::Result<()> {
-    match input.word().expect(BROKEN_LIST) {
+/// What the next call answers; none where it is cut or has another code.
+fn call(progress: &mut Progress, input: &mut Input) -> Option<String> {
+    let answer = match input.word()? {
         1 => {
             progress.patterns();
-            write!(out, "patterns ok")
+            "patterns ok".to_string()
         }
         2 => {
             progress.controls();
-            write!(out, "controls ok")
+            "controls ok".to_string()
         }
         3 => {
-            let count = input.word().expect(BROKEN_LIST);
-            let words = input.words(count as usize).expect(BROKEN_LIST);
-            match progress.load(&words) {
-                Ok(()) => write!(out, "load ok"),
-                Err(fault) => write!(out, "load refused={fault}"),
+            let count = input.word()?;
+            match progress.load(&input.words(count as usize)?) {
+                Ok(()) => "load ok".to_string(),
+                Err(fault) => format!("load refused={fault}"),
             }
         }
         4 => {
             progress.close();
-            write!(out, "close ok")
+            "close ok".to_string()
         }
-        5 => write!(out, "pressure {}", progress.pressure()),
-        6 => match progress.premise(input.word().expect(BROKEN_LIST)) {
-            Ok(truth) => write!(out, "premise {truth}"),
-            Err(fault) => write!(out, "premise refused={fault}"),
+        5 => format!("pressure {}", progress.pressure()),
+        6 => match progress.premise(input.word()?) {
+            Ok(truth) => format!("premise {truth}"),
+            Err(fault) => format!("premise refused={fault}"),
         },
-        7 => write!(out, "step {}", progress.step()),
+        7 => format!("step {}", progress.step()),
         8 => match progress.slow() {
-            Ok(length) => write!(out, "slow {length}"),
-            Err(fault) => write!(out, "slow refused={fault}"),
+            Ok(length) => format!("slow {length}"),
+            Err(fault) => format!("slow refused={fault}"),
         },
-        _ => panic!("{BROKEN_LIST}"),
-    }
+        9 => {
+            progress.close_by_table();
+            "close ok".to_string()
+        }
+        _ => return None,
+    };
+    Some(answer)
 }
 
 fn end_line(progress: &Progress, out: &mut impl Write) -> io::Result<()> {

@@ -14,10 +14,10 @@ use Rattle.driver_chunk.proofs.run.Statement.{statement}
 use Rattle.driver_chunk.proofs.run.Tie as tie
 
 abbrev Inv-loop : tie.InvT-loop
-Inv-loop p input whole out₀ size duration state₀ used₀ written₀ over₀ wants₀ out state used written over wants = (size ≡ loadBytes p) × Going p state₀ input whole out₀ out state used written over wants
+Inv-loop p begins middles links input whole out₀ size duration state₀ used₀ written₀ over₀ wants₀ out state used written over wants = (size ≡ loadBytes p) × Going p state₀ input whole out₀ out state used written over wants
 
 abbrev μ-loop : tie.MeasureT-loop
-μ-loop p input whole out₀ size duration state₀ used₀ written₀ over₀ wants₀ out state used written over wants = cond over 0 1 + (p .options .duration - state .clock .instant)
+μ-loop p begins middles links input whole out₀ size duration state₀ used₀ written₀ over₀ wants₀ out state used written over wants = cond over 0 1 + (p .options .duration - state .clock .instant)
 
 -- the test was true
 can : (c : tie.Then1 Inv-loop μ-loop) → Ready (c .before .before .loop .over) (c .before .before .loop .wants) (length (c .before .before .loop .out) - c .before .before .loop .written)
@@ -28,14 +28,14 @@ made :
     (c : tie.After-turn Inv-loop μ-loop) →
     let l = c .before .before .before .before .before .loop in
     let a = c .before .before .before .before .before .before .before .before .before .before .args in
-    TurnedAs (turn (a .p) (l .state) (drop (l .used) (a .input .now))) (l .written) (l .out) (c .turn .last .1 .1 .1 .0) (c .turn .result)
+    TurnedAs (turn (a .p) (l .state) (drop (l .used) (a .input .now))) (l .written) (l .out) (c .turn .last .1 .1 .1 .1 .1 .1 .0) (c .turn .result)
 made c =
     let l = c .before .before .before .before .before .loop in
     let a = c .before .before .before .before .before .before .before .before .before .before .args in
     on-part _ _ (a .input .now) (l .used) (c .turn .ensures)
 
 load-words-requires : tie.Need-load-words-requires Inv-loop μ-loop
-load-words-requires c κs = fit (c .before .before .args .p) (c .before .before .args .s) (c .before .before .pre)
+load-words-requires c κs = fit (c .before .before .args .p) (c .before .before .args .s) (c .before .before .pre .0)
 
 mul-size : tie.Need-mul-size Inv-loop μ-loop
 mul-size c = omega (arith, c .load-words .ensures .1)
@@ -44,7 +44,7 @@ wants-input-requires : tie.Need-wants-input-requires Inv-loop μ-loop
 wants-input-requires c κs = search needs
 
 loop-holds : tie.Need-loop-holds Inv-loop μ-loop
-loop-holds c = let e = ap (λ (n : ℕ). n * 4) (c .before .load-words .ensures .0) in (e, going-begun (c .before .before .before .before .pre) e (c .wants-input .ensures))
+loop-holds c = let e = ap (λ (n : ℕ). n * 4) (c .before .load-words .ensures .0) in (e, going-begun (c .before .before .before .before .pre .0) e (c .wants-input .ensures))
 
 sub-can-turn : tie.Need-sub-can-turn Inv-loop μ-loop
 sub-can-turn c = let g = c .loop .inv .1 in omega (arith, g .put .room, going-length g)
@@ -62,7 +62,7 @@ part-turn-end : tie.Need-part-turn-end Inv-loop μ-loop
 part-turn-end c = search needs
 
 turn-requires : tie.Need-turn-requires Inv-loop μ-loop
-turn-requires c κs = let g = c .before .before .before .before .loop .inv .1 in let k = can (c .before .before) in (g .ordered, omega (arith, k .fits, g .put .room, going-length g))
+turn-requires c κs = let g = c .before .before .before .before .loop .inv .1 in let k = can (c .before .before) in (g .ordered, (c .before .before .before .before .before .before .before .before .before .pre .1, omega (arith, k .fits, g .put .room, going-length g)))
 
 add-used : tie.Need-add-used Inv-loop μ-loop
 add-used c = let g = c .before .before .before .before .before .before .before .before .before .loop .inv .1 in let start = c .before .before .before .before .before .before .before .before .before .before .before .before .before .before in omega (arith, going-inside g (can (c .before .before .before .before .before .before .before)) (made (c .before .before .before .before)))

@@ -5,10 +5,10 @@ use Rattle.handed_in.proofs.run_changes.Statement.{statement}
 use Rattle.handed_in.proofs.run_changes.Tie as tie
 
 abbrev Inv-loop : tie.InvT-loop
-Inv-loop p s n i₀ i = Unit {0}
+Inv-loop p s t n i₀ i = Unit {0}
 
 abbrev μ-loop : tie.MeasureT-loop
-μ-loop p s n i₀ i = n - i
+μ-loop p s t n i₀ i = n - i
 
 loop-holds : tie.Need-loop-holds Inv-loop μ-loop
 loop-holds c = search needs

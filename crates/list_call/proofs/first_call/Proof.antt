@@ -5,7 +5,7 @@ use mathlib.Core.Bool.{true}
 use mathlib.Core.List.{List}
 use borrow.Author.Tests.{not-true, not-false}
 use denote.Ref.{now}
-use Rattle.list_words.proofs.Codes.{code-1, code-2, code-3, code-4, code-5, code-6, code-7, code-8}
+use Rattle.list_words.proofs.Codes.{code-1, code-2, code-3, code-4, code-5, code-6, code-7, code-8, code-9}
 use Rattle.list_words.proofs.Lists.{load-whole}
 use Rattle.list_words.specs.Lists.{callOf, callOk}
 use Rattle.demand3.specs.Calls.{called, pressed, stepped, outcome}
@@ -115,7 +115,23 @@ stepped-requires-2 c κs = search needs
 
 returns-9 : tie.Need-returns-9
 unfolding outcome
-returns-9 c = made (c .before .before .before .before .before .before .before .before .before .before .before .before .before .args .p) (now (c .before .before .before .before .before .before .before .before .before .before .before .before .before .args .words)) (c .before .before .before .before .before .before .before .before .before .before .before .before .before .args .s) (sym (c .before .before .before .before .before .before .before .before .before .before .before .call-ok .ensures) ∙ not-false (c .before .before .before .before .before .before .before .before .before .before .before .call-ok .result) (c .before .before .before .before .before .before .before .before .before .before .if1 .left)) (c .stepped2 .ensures ∙ (ap stepped (c .before .step-by-seconds .ensures) ∙ sym (ap (λ k. outcome (c .before .before .before .before .before .before .before .before .before .before .before .before .before .args .p) k (c .before .before .before .before .before .before .before .before .before .before .before .before .before .args .s)) (code-8 (now (c .before .before .before .before .before .before .before .before .before .before .before .before .before .args .words)) _ (c .before .before .before .before .before .before .before .before .before .word .ensures) (c .before .before .before .before .before .before .before .before .if2 .left) (c .before .before .before .before .before .before .before .if3 .left) (c .before .before .before .before .before .before .if4 .left) (c .before .before .before .before .before .if5 .left) (c .before .before .before .before .if6 .left) (c .before .before .before .if7 .left) (c .before .before .if8 .left)))))
+returns-9 c =
+    let a = c .before .before .before .before .before .before .before .before .before .before .before .before .before .before .args in
+    made (a .p) (now (a .words)) (a .s) (sym (c .before .before .before .before .before .before .before .before .before .before .before .before .call-ok .ensures) ∙ not-false (c .before .before .before .before .before .before .before .before .before .before .before .before .call-ok .result) (c .before .before .before .before .before .before .before .before .before .before .before .if1 .left))
+    (c .stepped2 .ensures ∙ (ap stepped (c .before .step-by-seconds .ensures) ∙ sym (ap (λ k. outcome (a .p) k (a .s)) (code-8 (now (a .words)) _ (c .before .before .before .before .before .before .before .before .before .before .word .ensures) (c .before .before .if9 .taken)))))
+
+close-by-table-requires : tie.Need-close-by-table-requires
+close-by-table-requires c κs = search needs
+
+called-requires-5 : tie.Need-called-requires-5
+called-requires-5 c κs = search needs
+
+returns-10 : tie.Need-returns-10
+unfolding outcome
+returns-10 c =
+    let a = c .before .before .before .before .before .before .before .before .before .before .before .before .before .before .args in
+    made (a .p) (now (a .words)) (a .s) (sym (c .before .before .before .before .before .before .before .before .before .before .before .before .call-ok .ensures) ∙ not-false (c .before .before .before .before .before .before .before .before .before .before .before .before .call-ok .result) (c .before .before .before .before .before .before .before .before .before .before .before .if1 .left))
+    (c .called5 .ensures ∙ (ap called (c .before .close-by-table .ensures) ∙ sym (ap (λ k. outcome (a .p) k (a .s)) (code-9 (now (a .words)) _ (c .before .before .before .before .before .before .before .before .before .before .word .ensures) (c .before .before .before .before .before .before .before .before .before .if2 .left) (c .before .before .before .before .before .before .before .before .if3 .left) (c .before .before .before .before .before .before .before .if4 .left) (c .before .before .before .before .before .before .if5 .left) (c .before .before .before .before .before .if6 .left) (c .before .before .before .before .if7 .left) (c .before .before .before .if8 .left) (c .before .before .if9 .left)))))
 
 pub first-call-spec : {M : Type 1} → statement M
 first-call-spec =
@@ -149,4 +165,7 @@ first-call-spec =
     returns-8
     step-by-seconds-requires
     stepped-requires-2
-    returns-9)
+    returns-9
+    close-by-table-requires
+    called-requires-5
+    returns-10)

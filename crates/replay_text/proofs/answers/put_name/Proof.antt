@@ -52,7 +52,7 @@ same-length-4 : tie.Need-same-length-4
 same-length-4 c = search needs
 
 returns-4 : tie.Need-returns-4
-returns-4 c = fits (c .before .before .before .before .before .before .before .before .before .before .args .out .now) (c .before .before .before .before .before .before .before .before .before .before .args .at) (nameText (c .before .before .before .before .before .before .before .before .before .before .args .code)) (name-4 (c .before .before .before .before .before .before .before .before .before .before .args .code) (c .before .before .before .before .before .if4 .taken)) (omega (arith, c .before .before .before .before .before .before .before .before .before .before .pre, name-short (c .before .before .before .before .before .before .before .before .before .before .args .code))) (c .before .before .put-text4 .ensures .0) (c .before .before .put-text4 .ensures .1)
+returns-4 c = fits (c .before .before .before .before .before .before .before .before .before .before .args .out .now) (c .before .before .before .before .before .before .before .before .before .before .args .at) (nameText (c .before .before .before .before .before .before .before .before .before .before .args .code)) (name-4 (c .before .before .before .before .before .before .before .before .before .before .args .code) (c .before .before .before .before .before .before .before .before .if1 .left) (c .before .before .before .before .before .before .before .if2 .left) (c .before .before .before .before .before .before .if3 .left) (c .before .before .before .before .before .if4 .taken)) (omega (arith, c .before .before .before .before .before .before .before .before .before .before .pre, name-short (c .before .before .before .before .before .before .before .before .before .before .args .code))) (c .before .before .put-text4 .ensures .0) (c .before .before .put-text4 .ensures .1)
 
 slice-aggregate-put-text-5 : tie.Need-slice-aggregate-put-text-5
 slice-aggregate-put-text-5 c = search needs

@@ -1,35 +1,59 @@
--- `solver::closing::update_tank_links` meets its contract. The passes come to the definition, tank by tank. Assumes nothing.
+-- `solver::closing::update_tank_links` meets its contract: the table is laid out for the project's tanks. Assumes nothing.
 use mathlib.Core.Path.{_≡_}
 use lib.ListN.{length}
 use Rattle.model.proofs.Each.{mapped}
-use Rattle.solver.proofs.Tankwise.{update-tank-links-is}
+use Rattle.run_tables.proofs.Inside.{distinct, laid-pushed}
+use Rattle.tank_links.proofs.Judging.{Stands, stands, ends-inside}
+use Rattle.solver.proofs.ByTable.{tanks-inside, groups-inside, laid-is, closed-by-is}
+use borrow.Author.Needs.{needs}
 use Rattle.solver.proofs.closing.update_tank_links.Statement.{statement}
 use Rattle.solver.proofs.closing.update_tank_links.Tie as tie
 
-long : (c : tie.Start) → length (c .args .s .nodes) ≡ 256
-long c = mapped _ (c .args .s .nodes) 256 (c .good .1 .0 .1 .1 .0 .1 .0 .1)
+long : (c : tie.Start) → length (c .args .s .links) ≡ 384
+long c = mapped _ (c .args .s .links) 384 (c .good .1 .0 .1 .1 .1 .0 .1 .0 .1)
 
-close-links-requires : tie.Need-close-links-requires
-close-links-requires c κs = c .pre
+there : (c : tie.After-lay-groups) → Stands (c .before .before .before .before .before .before .before .before .before .before .before .before .args .p) (c .lay-groups .last .1 .1 .1 .1 .0) (c .lay-groups .last .1 .1 .1 .1 .1 .0) (c .lay-groups .last .1 .1 .1 .1 .1 .1 .0)
+there c =
+    let e = c .lay-groups .ensures in
+    stands _ _ _ _ (laid-is (c .before .before .before .before .before .before .before .before .before .before .before .before .pre) (c .before .before .before .before .before .before .before .before .before .tank-table .ensures) _ _ _ (c .before .before .before .before .before .before .before .before .no-places .ensures) (c .before .before .before .before .before .before .before .no-middles .ensures) (c .before .before .before .before .before .before .no-entries .ensures) (e .0) (e .1 .0) (e .1 .1))
 
-empty-tanks-requires : tie.Need-empty-tanks-requires
-empty-tanks-requires c κs = c .before .pre
+tank-table-requires : tie.Need-tank-table-requires
+tank-table-requires c κs = search needs
 
-sum-into-requires : tie.Need-sum-into-requires
-sum-into-requires c κs = c .before .before .pre
+no-places-requires : tie.Need-no-places-requires
+no-places-requires c κs = search needs
 
-sum-out-of-requires : tie.Need-sum-out-of-requires
-sum-out-of-requires c κs = c .before .before .before .pre
+no-middles-requires : tie.Need-no-middles-requires
+no-middles-requires c κs = search needs
+
+no-entries-requires : tie.Need-no-entries-requires
+no-entries-requires c κs = search needs
+
+lay-groups-requires : tie.Need-lay-groups-requires
+lay-groups-requires c κs =
+    let t = c .before .before .before .before .before .before .before .before .tank-table .ensures in
+    let a = c .before .before .before .before .before .before .before .before .before .before .before in
+    (ends-inside (a .args .p) (a .pre), (tanks-inside (a .pre) t, distinct (laid-pushed t)))
+
+close-by-requires : tie.Need-close-by-requires
+close-by-requires c κs =
+    let t = c .before .before .before .before .before .before .before .before .before .before .before .before .before .before .before .before .tank-table .ensures in
+    let a = c .before .before .before .before .before .before .before .before .before .before .before .before .before .before .before .before .before .before .before in
+    (tanks-inside (a .pre) t, groups-inside (a .pre) t (there (c .before .before .before .before .before .before .before)))
 
 returns : tie.Need-returns
-returns c = rw (← update-tank-links-is (c .before .before .before .before .pre) (c .before .before .before .before .args .s) (long (c .before .before .before .before)), ← c .before .before .before .close-links .ensures, ← c .before .before .empty-tanks .ensures, ← c .before .sum-into .ensures) (c .sum-out-of .ensures)
+returns c =
+    let a = c .before .before .before .before .before .before .before .before .before .before .before .before .before .before .before .before .before .before .before .before in
+    closed-by-is (a .pre) (c .before .before .before .before .before .before .before .before .before .before .before .before .before .before .before .before .before .tank-table .ensures) (there (c .before .before .before .before .before .before .before .before)) (a .args .s) (long a) (c .close-by .result) (c .close-by .ensures)
 
 pub update-tank-links-spec : {M : Type 1} → statement M
 update-tank-links-spec =
     tie.close
     (tie.spec
-    close-links-requires
-    empty-tanks-requires
-    sum-into-requires
-    sum-out-of-requires
+    tank-table-requires
+    no-places-requires
+    no-middles-requires
+    no-entries-requires
+    lay-groups-requires
+    close-by-requires
     returns)

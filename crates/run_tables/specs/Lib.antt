@@ -1,0 +1,5 @@
+pub mod Chosen
+pub mod Rows
+pub mod Blocks
+pub mod Tanks
+pub mod Held
