@@ -1,6 +1,5 @@
 -- "Take any list of these calls, refused ones included, from an accepted project's start: patterns, controls, loads, tank-link closing, pressure pass,
--- premises, steps." Document 02 adds the step by the second clock (R-10) and
--- closing by the table of the tanks' links (R-8).
+-- premises, steps." Document 02 adds the step by the second clock (R-10) and closing by the table of the tanks' links (R-8).
 use Prim.Native.Nat.{ℕ}
 use mathlib.Core.Bool.{Bool, true, false}
 use mathlib.Core.List.{List}

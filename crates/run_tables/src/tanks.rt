@@ -56,7 +56,7 @@ fn with_tank(count: usize, n: Node) -> usize
     count
 }
 
-// An index is pushed without a branch: it is written at the count, which then may move on.
+// The tanks among the first n nodes. An index is pushed without a branch: it is written at the count, which moves on where it is a tank's.
 pub fn tank_nodes(table: [Node; 256], n: usize) -> TankNodes
     requires { ⌜ n ≤ 256 ⌝ }
     ensures { λ r. ⌜ Pushed (tankIn table) n (r .nodes) (r .count) ⌝ }
@@ -99,6 +99,7 @@ fn tank_of(node: Node) -> Tank
     }
 }
 
+// A tank's numbers, written as its row.
 fn put_tank(numbers: &mut [f64; 1280], k: usize, t: Tank)
     requires { ⌜ k < 256 ⌝ }
     ensures { λ _. ⌜ now (numbers .exit) ≡ block (now (numbers .entry)) (5 * k) (t .elevation .0 ∷ t .«initial_level» .0 ∷ t .«min_level» .0 ∷ t .«max_level» .0 ∷ t .diameter .0 ∷ []) ⌝ }
@@ -110,6 +111,7 @@ fn put_tank(numbers: &mut [f64; 1280], k: usize, t: Tank)
     numbers[5 * k + 4] = t.diameter.0;
 }
 
+// The same, with the numbers of each.
 pub fn tank_table(table: [Node; 256], n: usize) -> TankTable
     requires { ⌜ n ≤ 256 ⌝ }
     ensures { λ r. ⌜ TanksLaid table n (r .nodes) (r .numbers) (r .overflows) (r .count) ⌝ }
