@@ -13,7 +13,6 @@ use Rattle.state.specs.Start.{startNodes, startLinks, newWithInitialValues}
 use Rattle.state.specs.Patterns.{applyPatterns}
 use Rattle.state.specs.Controls.{applyControls}
 use Rattle.load.specs.Loads.{loadFault, loadFlows, takeLoad}
-use Rattle.solver.specs.Closing.{closeLinks, updateTankLinks}
 use Rattle.solver.specs.Pressure.{applyPressureControls}
 use Rattle.solver.specs.declared.pressure.Pressed.{Pressed}
 use Rattle.calls.specs.Calls as calls
@@ -22,6 +21,7 @@ use Rattle.calls.specs.declared.Called.{Called}
 use Rattle.calls.specs.declared.PremiseAnswer.{PremiseAnswer}
 use Rattle.calls.specs.declared.PremiseAnswer.the-variants.{Truth, Refused}
 use Rattle.calls.specs.declared.PressureCalled.{PressureCalled}
+use Rattle.solver.proofs.ByTable.{clock-kept}
 use Rattle.second_clock.specs.SecondClock.{secondApplies}
 use Rattle.second_clock.proofs.Laws.{second-refused}
 use Rattle.list_words.specs.Calls.{Call, patterns, controls, load, tankLinks, pressure, premise, step, second, tankLinksByTable, isStep}
@@ -40,11 +40,6 @@ controls-quiet p s = kept (λ (u : State). u .clock) _ s (λ i u. refl) (p .coun
 load-quiet : (p : Project) (words : List ℕ) (s : State) → takeLoad p words s .clock ≡ s .clock
 unfolding takeLoad loadFlows
 load-quiet p words s =
-    kept (λ (u : State). u .clock) _ _ (λ i u. refl) (p .counts .nodes) ∙ kept (λ (u : State). u .clock) _ s (λ i u. refl) (p .counts .links)
-
-closing-quiet : (p : Project) (s : State) → updateTankLinks p s .clock ≡ s .clock
-unfolding updateTankLinks closeLinks
-closing-quiet p s =
     kept (λ (u : State). u .clock) _ _ (λ i u. refl) (p .counts .nodes) ∙ kept (λ (u : State). u .clock) _ s (λ i u. refl) (p .counts .links)
 
 pressure-quiet : (p : Project) (s : State) → applyPressureControls p s .state .clock ≡ s .clock
@@ -84,9 +79,9 @@ unfolding outcome calls.patterns calls.controls calls.load calls.tankLinks calls
 quiet p patterns s e = judged-quiet p s _ (patterns-quiet p s)
 quiet p controls s e = judged-quiet p s _ (controls-quiet p s)
 quiet p (load words) s e = judged-quiet p s _ (loaded-quiet p words s (eqb (loadFault p words) 0))
-quiet p tankLinks s e = judged-quiet p s _ (closing-quiet p s)
+quiet p tankLinks s e = judged-quiet p s _ (clock-kept p s)
 quiet p pressure s e = pressed-quiet p s (inOrder p s)
 quiet p (premise i) s e = asked-quiet (calls.premise p i s) s
 quiet p step s e = absurd (true≢false e)
 quiet p second s e = ap (λ (u : State). u .clock) (second-refused p s e .1)
-quiet p tankLinksByTable s e = rw (by-own-table p s) (judged-quiet p s _ (closing-quiet p s))
+quiet p tankLinksByTable s e = rw (by-own-table p s) (judged-quiet p s _ (clock-kept p s))

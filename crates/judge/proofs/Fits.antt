@@ -2,8 +2,7 @@
 use mathlib.Core.Path.{_≡_, refl}
 use mathlib.Core.Bool.{Bool, true, false, _&&_}
 use mathlib.Core.List.{List, [], _∷_}
-use Prim.Native.Nat.{ℕ, zero, suc, _^_, _≤_, _<_}
-use native.Mathlib.Omega.{arith}
+use Prim.Native.Nat.{ℕ, _^_, _≤_}
 use lib.Dec.{T, lit≤, leb}
 use lib.Ieee.{Float}
 use lib.Ieee.Exact.{HasValue}
@@ -14,12 +13,11 @@ use Rattle.number.specs.Order.{within}
 use Rattle.number.proofs.Bounds.{exact-whole, exact-20}
 use Rattle.number.proofs.Range.{within-of-test, test-of-within}
 use Rattle.model.specs.Blank.{nodeStateAt, linkStateAt}
-use Rattle.model.specs.Loops.{allBelow}
 use Rattle.model.specs.declared.project.Project.{Project}
 use Rattle.model.specs.declared.state.LinkState.{LinkState}
 use Rattle.model.specs.declared.state.NodeState.{NodeState}
 use Rattle.model.specs.declared.state.State.{State}
-use Rattle.model.proofs.Loops.{held-at}
+use Rattle.model.proofs.Loops.{held-at, all-below}
 use Rattle.table_ranges.specs.Ranges.{statusOk}
 use Rattle.table_entry.proofs.Tests.{each}
 use Rattle.judge.specs.Fit.{NodeStateFit, LinkStateFit, StateFit}
@@ -51,11 +49,6 @@ bound {n} limit x v e = within-of-test x limit n v (is-true e)
 
 test : {n : ℕ} (limit x : Float) → HasValue limit false n 1 → Within x n → within limit x ≡ true
 test {n} limit x v w = holds (within limit x) (test-of-within x limit n v w)
-
-all-below : (n : ℕ) (t : ℕ → Bool) → ((i : ℕ) → i < n → t i ≡ true) → allBelow n t ≡ true
-unfolding allBelow
-all-below zero t h = refl
-all-below (suc n) t h = rw (all-below n t (λ i l. h i (omega arith)), h n (omega arith))
 
 -- ---- a node's record
 pub node-state-fit : (x : NodeState) → nodeStateOk x ≡ true → NodeStateFit x

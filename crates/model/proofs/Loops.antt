@@ -66,7 +66,7 @@ both-right true b e = e
 both-right false true e = refl
 both-right false false e = e
 
--- where all hold, each does
+-- where all hold, each does; and the other way round
 pub held-at : (n : ℕ) (t : ℕ → Bool) → allBelow n t ≡ true → (i : ℕ) → i < n → t i ≡ true
 unfolding allBelow
 held-at zero t e i l = absurd (not-suc-le-zero l)
@@ -74,6 +74,11 @@ held-at (suc n) t e i l =
     ⊎-elim (λ q. rw q (both-right (allBelow n t) (t n) e))
     (λ m. held-at n t (both-left (allBelow n t) (t n) e) i m)
     (eq-or-lt-of-le (le-of-suc-le-suc l))
+
+pub all-below : (n : ℕ) (t : ℕ → Bool) → ((i : ℕ) → i < n → t i ≡ true) → allBelow n t ≡ true
+unfolding allBelow
+all-below zero t h = refl
+all-below (suc n) t h = rw (all-below n t (λ i l. h i (omega arith)), h n (omega arith))
 
 -- where one fails, not all hold
 pub held-failed : (n : ℕ) (t : ℕ → Bool) (i : ℕ) → i < n → t i ≡ false → allBelow n t ≡ false

@@ -3,7 +3,7 @@
 use Prim.Native.Nat.{ℕ, zero, suc, _≤_, _<_}
 use mathlib.Core.Path.{_≡_, refl, sym, ap, _∙_}
 use mathlib.Core.Bool.{Bool, true, false, cond}
-use mathlib.Core.List.{List}
+use mathlib.Core.List.{List, [], _∷_, map}
 use native.Mathlib.Omega.{arith}
 use lib.Dec.{eqb, ltb}
 use borrow.Author.Tests.{eqb-true, eqb-false, ltb-true, ltb-false, lt-ltb, le-ltb}
@@ -12,6 +12,7 @@ use lib.Seq.{getD-set-same, getD-set-other}
 use Rattle.model.specs.Loops.{through}
 use Rattle.model.specs.declared.state.NodeState.{NodeState}
 use Rattle.model.specs.declared.state.State.{State}
+use Rattle.model.proofs.Keeps.{keeps}
 
 -- ---- one loop for another, turn by turn
 pub same-turns : {S : Type 0} (n : ℕ) (f g : ℕ → S → S) (s : S) → ((k : ℕ) (t : S) → k < n → f k t ≡ g k t) → through n f s ≡ through n g s
@@ -25,11 +26,26 @@ unfolding through
 idle zero f s h = refl
 idle (suc n) f s h = ap (f n) (idle n f s (λ k l. h k (omega arith))) ∙ h n (omega arith)
 
--- a loop on what g makes of a value
-pub carried : {A B : Type 0} (g : A → B) (n : ℕ) (f : ℕ → B → B) (h : ℕ → A → A) (a : A) → ((k : ℕ) (x : A) → k < n → f k (g x) ≡ g (h k x)) → through n f (g a) ≡ g (through n h a)
+-- a loop on what g makes of a value, where each turn may use what every turn keeps
+pub carried-keeping :
+    {A B : Type 0} (g : A → B) (P : A → Type 0) (n : ℕ) (f : ℕ → B → B) (h : ℕ → A → A) (a : A) → P a
+    → ((k : ℕ) (x : A) → k < n → P x → P (h k x))
+    → ((k : ℕ) (x : A) → k < n → P x → f k (g x) ≡ g (h k x))
+    → through n f (g a) ≡ g (through n h a)
 unfolding through
-carried g zero f h a e = refl
-carried g (suc n) f h a e = ap (f n) (carried g n f h a (λ k x l. e k x (omega arith))) ∙ e n (through n h a) (omega arith)
+carried-keeping g P zero f h a b keep e = refl
+carried-keeping g P (suc n) f h a b keep e =
+    ap (f n) (carried-keeping g P n f h a b (λ k x l. keep k x (omega arith)) (λ k x l. e k x (omega arith)))
+    ∙ e n (through n h a) (omega arith) (keeps (λ i. P) h a n b (λ i t l q. keep i t (omega arith) q))
+
+pub carried : {A B : Type 0} (g : A → B) (n : ℕ) (f : ℕ → B → B) (h : ℕ → A → A) (a : A) → ((k : ℕ) (x : A) → k < n → f k (g x) ≡ g (h k x)) → through n f (g a) ≡ g (through n h a)
+carried g n f h a e = carried-keeping g (λ x. Unit {0}) n f h a tt (λ k x l q. tt) (λ k x l q. e k x l)
+
+-- a store, seen through what g makes of an entry
+pub map-set : {A B : Type 0} (g : A → B) (l : List A) (i : ℕ) (a : A) → map g (set l i a) ≡ set (map g l) i (g a)
+map-set g [] i a = refl
+map-set g (x ∷ l) zero a = refl
+map-set g (x ∷ l) (suc i) a = ap (λ (ys : List _). g x ∷ ys) (map-set g l i a)
 
 module _ {A : Type 0} (d : A) where
   -- an entry put in place of what f makes of it

@@ -1,3 +1,2 @@
-pub mod Carried
 pub mod Filled
 pub mod Apart

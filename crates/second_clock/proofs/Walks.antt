@@ -1,6 +1,6 @@
 -- The walk, second by second. What the controls of a table wait for, asked one after the other, are the triggers of the definition. Assumes nothing.
 use mathlib.Core.Path.{_≡_, refl, sym, ap, _∙_}
-use mathlib.Core.Bool.{Bool, true, false, cond, _||_}
+use mathlib.Core.Bool.{Bool, true, false, cond, _||_, or-false, or-assoc}
 use mathlib.Core.List.{List, [], _∷_, _++_}
 use Prim.Native.Nat.{ℕ, zero, suc, _+_, _-_, _^_, _≤_, _<_}
 use native.Mathlib.Omega.{arith}
@@ -27,14 +27,6 @@ use Rattle.awaited.proofs.Notes.{notes-at}
 use Rattle.second_clock.specs.Walks.{anyCalls, stopsThen, stopsBy, TimesFit}
 
 -- ---- what a control waits for
-or-false : (b : Bool) → (b || false) ≡ b
-or-false true = refl
-or-false false = refl
-
-or-assoc : (a b c : Bool) → (a || (b || c)) ≡ ((a || b) || c)
-or-assoc true b c = refl
-or-assoc false b c = refl
-
 -- it waits for an instant or a clock time exactly if it calls for a stop there
 called-one : (t : Trigger Level) (u clock : ℕ) → u < NEVER → clock < NEVER → (eqb u (timeOf t) || eqb clock (clockOf t)) ≡ callsNow u clock t
 called-one (atTime s) u clock a b = rw (ne-eqb clock NEVER (λ e. omega arith)) (or-false (eqb u s))
@@ -46,7 +38,7 @@ called-one untimed u clock a b = rw (ne-eqb u NEVER (λ e. omega arith), ne-eqb 
 called-last : (o : Times) (ts : List (Trigger Level)) (t : Trigger Level) (u : ℕ) → calledAt o (ts ++ (t ∷ [])) u ≡ (calledAt o ts u || callsAt o u t)
 unfolding calledAt
 called-last o [] t u = or-false (callsAt o u t)
-called-last o (x ∷ ts) t u = rw (called-last o ts t u) (or-assoc (callsAt o u x) (calledAt o ts u) (callsAt o u t))
+called-last o (x ∷ ts) t u = rw (called-last o ts t u) (sym (or-assoc (callsAt o u x) (calledAt o ts u) (callsAt o u t)))
 
 module _ (o : Times) (controls : List Control) (count u clock : ℕ) (most : count ≤ 64) (early : u < NEVER) (now : clock ≡ clockTime (o .«start_clock») u) where
   any-called : (n : ℕ) → n ≤ count → anyCalls (notes timeOf controls count) (notes clockOf controls count) n u clock ≡ calledAt o (triggersIn controls n) u

@@ -144,7 +144,7 @@ module _ (p : Project) (s : State) where
       (λ i v. map-set-same demandFlowOf (v .nodes) i _ blankNodeState (summed-flow p (closeLinks p s) i (nodeStateAt v i))) (p .counts .nodes)
       ∙ ap (map demandFlowOf) (nodes-kept p s)
 
-  clock-kept : after .clock ≡ s .clock
+  pub clock-kept : after .clock ≡ s .clock
   unfolding updateTankLinks closeLinks
   clock-kept =
       kept (λ (v : State). v .clock) (nodeSummed p (closeLinks p s)) (closeLinks p s) (λ i v. refl) (p .counts .nodes)

@@ -2,7 +2,7 @@
 -- another is marking by either, so both come down to one marking, and its tests agree link by link. Assumes nothing.
 use Prim.Native.Nat.{ℕ, zero, suc, _+_, _-_, _≤_, _<_}
 use mathlib.Core.Path.{_≡_, refl, sym, ap, _∙_}
-use mathlib.Core.Bool.{Bool, true, false, cond, _&&_, _||_, true≢false}
+use mathlib.Core.Bool.{Bool, true, false, cond, _&&_, _||_, true≢false, or-false, or-comm}
 use mathlib.Core.List.{List, map}
 use native.Mathlib.Omega.{arith}
 use borrow.Author.Tests.{eqb-true, eqb-false, eq-eqb, ne-eqb, lt-ltb}
@@ -22,14 +22,13 @@ use Rattle.model.specs.declared.project.Project.{Project}
 use Rattle.model.specs.declared.state.LinkState.{LinkState}
 use Rattle.model.specs.declared.state.NodeState.{NodeState}
 use Rattle.model.specs.declared.state.State.{State}
-use Rattle.model.proofs.Pointwise.{same-turns, idle, putAt, kept-length, hit, each-at}
+use Rattle.model.proofs.Pointwise.{same-turns, idle, carried-keeping, map-set, putAt, kept-length, hit, each-at}
 use Rattle.tables.specs.Fit.{TablesFit}
 use Rattle.tank.specs.declared.tank.Tank as tanks
 use Rattle.state_link.specs.Closing.{fillClosed, emptyClosed, closesInto, closesOutOf, closed}
 use Rattle.solver.specs.Closing.{linkClosed, closeLinks}
 use Rattle.run_state.specs.Lists.{headOf, headsOf, flowOf, statusOf}
 use Rattle.run_tables.specs.Rows.{tankAt}
-use Rattle.run_state.proofs.Carried.{map-set, carried}
 use Rattle.run_tables.specs.Chosen.{chosen}
 use Rattle.run_tables.specs.Held.{Part, TanksLaid}
 use Rattle.run_tables.specs.Tanks.{tankNodes}
@@ -84,16 +83,6 @@ mark-all L G F st h (suc n) e =
     ∙ mark-twice L (G n) (λ l. any n (λ k. G k l)) st h
 
 -- ---- a test below n
-or-false : (a : Bool) → (a || false) ≡ a
-or-false true = refl
-or-false false = refl
-
-or-swap : (a b : Bool) → (a || b) ≡ (b || a)
-or-swap true true = refl
-or-swap true false = refl
-or-swap false true = refl
-or-swap false false = refl
-
 or-four : (a b x y : Bool) → ((a || b) || (x || y)) ≡ ((a || x) || (b || y))
 or-four true b x y = refl
 or-four false true true y = refl
@@ -134,7 +123,7 @@ into-is t k x head flow f e h q = rw (e, h, q)
 out-is : (t : tanks.Tank) (k : NodeType) (x : NodeState) (head flow f : Float) → k ≡ Tank t → head ≡ x .head → flow ≡ f
     → (emptyClosed t head && lt (decimal 0 0) flow || fillClosed t head && lt flow (decimal 0 0)) ≡ closesOutOf k x f
 unfolding closesOutOf
-out-is t k x head flow f e h q = rw (e, h, q) (or-swap (emptyClosed t (x .head) && lt (decimal 0 0) f) (fillClosed t (x .head) && lt f (decimal 0 0)))
+out-is t k x head flow f e h q = rw (e, h, q) (or-comm (emptyClosed t (x .head) && lt (decimal 0 0) f) (fillClosed t (x .head) && lt f (decimal 0 0)))
 
 no-into : (k : NodeType) (x : NodeState) (f : Float) → isTankType k ≡ false → closesInto k x f ≡ false
 unfolding closesInto
@@ -192,7 +181,7 @@ module _ (p : Project) (s : State) where
 
   links-are : markAll (p .counts .links) closesAt (map statusOf (s .links)) ≡ map statusOf (closeLinks p s .links)
   unfolding closeLinks Same
-  links-are = carried (λ (x : State). map statusOf (x .links)) Same (p .counts .links) (markAt closesAt) (linkClosed p) s (refl, refl) keep turn
+  links-are = carried-keeping (λ (x : State). map statusOf (x .links)) Same (p .counts .links) (markAt closesAt) (linkClosed p) s (refl, refl) keep turn
     where
       keep : (i : ℕ) (x : State) → i < p .counts .links → Same x → Same (linkClosed p i x)
       keep i x l q = (q .0, map-set-same flowOf (x .links) i _ blankLinkState (same-flow (linkStateAt x i) _ _ _ _) ∙ q .1)

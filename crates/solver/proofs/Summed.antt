@@ -20,11 +20,11 @@ use Rattle.model.specs.declared.state.LinkState.{LinkState}
 use Rattle.model.specs.declared.state.NodeState.{NodeState}
 use Rattle.model.specs.declared.state.State.{State}
 use Rattle.model.proofs.Loops.{kept}
+use Rattle.model.proofs.Pointwise.{carried, map-set}
 use Rattle.state_link.specs.Closing.{closed, closesInto, closesOutOf}
 use Rattle.solver.specs.Closing.{linkClosed, closeLinks, flowInto, tankInflow, summed, nodeSummed, updateTankLinks}
 use Rattle.tank.specs.declared.tank.Tank as tanks
 use Rattle.run_state.specs.Lists.{flowOf, demandOf, demandsOf}
-use Rattle.run_state.proofs.Carried.{map-set, carried}
 use Rattle.run_tables.specs.Tanks.{tankNodes}
 use Rattle.run_tables.specs.Held.{TanksLaid}
 use Rattle.run_tanks.specs.Closing.{added, taken, inflowOf, demandsSummed}
@@ -89,7 +89,7 @@ pub sum-demands-is :
 unfolding demandsSummed updateTankLinks
 sum-demands-is {p} {nodes} {begins} {middles} {links} {numbers} {overflows} {n} laid groups s =
     ap (through n flat) (ap (map demandOf) (sym (nodes-kept p s)))
-    ∙ carried demandsOf (λ (x : State). Unit {0}) n flat (λ k. nodeSummed p u (getD nodes k 0)) u tt (λ k x l q. tt) turn
+    ∙ carried demandsOf n flat (λ k. nodeSummed p u (getD nodes k 0)) u turn
     ∙ ap demandsOf
     (held-along (λ k. getD nodes k 0) (tankNodes p) (nodeSummed p u) u n (laid .count) (laid .node)
     ∙ sym (chosen-along (λ i. isTank (nodeAt p i)) (p .counts .nodes) (nodeSummed p u) u (λ i x l e. idle p u flows (sym (flows-kept p s)) i x e)))
@@ -103,8 +103,8 @@ sum-demands-is {p} {nodes} {begins} {middles} {links} {numbers} {overflows} {n} 
     flat : ℕ → List Float → List Float
     flat k ds = set ds (getD nodes k 0) (inflowOf begins middles links flows k)
 
-    turn : (k : ℕ) (x : State) → k < n → Unit {0} → flat k (demandsOf x) ≡ demandsOf (nodeSummed p u (getD nodes k 0) x)
-    turn k x l q =
+    turn : (k : ℕ) (x : State) → k < n → flat k (demandsOf x) ≡ demandsOf (nodeSummed p u (getD nodes k 0) x)
+    turn k x l =
         ap (set (demandsOf x) j) (inflow-is p u flows (sym (flows-kept p s)) j (groups k l) ∙ sym (summed-demand p u flows (sym (flows-kept p s)) j (nodeStateAt x j) (tank-is p j (laid .tank k l))))
         ∙ sym (map-set demandOf (x .nodes) j _)
       where

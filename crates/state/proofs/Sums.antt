@@ -1,19 +1,17 @@
--- What a pass over the links leaves at one node: a tank's demand with the flows of its own links taken in, in link order, and every other node as it was.
+-- What a link's turn in a pass over the links leaves at one node: a tank's demand with the flow of its own link taken in, and every other node as it was.
 -- Assumes nothing.
 use Prim.Native.Nat.{ℕ, _≤_, _<_}
-use mathlib.Core.Path.{_≡_, refl, sym, ap, _∙_}
+use mathlib.Core.Path.{_≡_, refl}
 use mathlib.Core.Bool.{Bool, true, false, cond}
 use native.Mathlib.Omega.{arith}
 use lib.Dec.{eqb}
 use lib.Ieee.{Float}
 use borrow.Author.Tests.{eqb-true, ne-eqb}
 use Rattle.model.specs.Blank.{nodeAt}
-use Rattle.model.specs.Loops.{through}
 use Rattle.model.specs.Nodes.{isTank}
 use Rattle.model.specs.declared.node.Node.{Node}
 use Rattle.model.specs.declared.project.Project.{Project}
 use Rattle.model.specs.declared.state.NodeState.{NodeState}
-use Rattle.model.proofs.Pointwise.{idle, carried}
 use Rattle.state_node.specs.Inflow.{withDemand}
 
 -- a tank's demand with a flow taken in by an operation; other nodes stay
@@ -44,13 +42,3 @@ module _ (p : Project) (op : Float → Float → Float) (at : ℕ → ℕ) (flow
 
   pub turn-past : {nodes k : ℕ} → at k < nodes → nodes ≤ j → (x : NodeState) → turnAt k x ≡ x
   turn-past {nodes} {k} l m x = rw (ne-eqb (at k) j (λ q. omega arith))
-
-  -- a whole pass
-  pub pass-tank : (n : ℕ) → isTank (nodeAt p j) ≡ true → (x : NodeState) (sum : Float) → through n turnAt (withDemand x sum) ≡ withDemand x (through n sumAt sum)
-  pass-tank n e x sum = carried (withDemand x) n turnAt sumAt sum (λ k s l. turn-tank e x k s)
-
-  pub pass-other : (n : ℕ) → isTank (nodeAt p j) ≡ false → (x : NodeState) → through n turnAt x ≡ x
-  pass-other n e x = idle n turnAt x (λ k l. turn-other e x k)
-
-  pub pass-past : (n nodes : ℕ) → ((k : ℕ) → k < n → at k < nodes) → nodes ≤ j → (x : NodeState) → through n turnAt x ≡ x
-  pass-past n nodes h m x = idle n turnAt x (λ k l. turn-past (h k l) m x)

@@ -11,7 +11,7 @@ use lib.ListN.{length, getD, replicate, length-append, length-replicate, List·g
 use lib.Seq.{sets, length-sets, getD-append-add}
 use Rattle.model.specs.Loops.{allBelow}
 use Rattle.model.specs.declared.project.Project.{Project}
-use Rattle.model.proofs.Loops.{both-left, both-right, held-at}
+use Rattle.model.proofs.Loops.{both-left, both-right, held-at, all-below}
 use Rattle.tables.specs.Fit.{TablesFit}
 use Rattle.run_tables.specs.Held.{Pushed}
 use Rattle.run_tables.specs.Tanks.{tankIn, tankNodes}
@@ -32,11 +32,6 @@ with-at array xs e i h = eqb-true _ _ (held-at (length xs) (λ k. eqb (getD arra
 pub with-long : (array xs : List ℕ) → beginsWith array xs ≡ true → length xs ≤ length array
 unfolding beginsWith
 with-long array xs e = leb-true (length xs) (length array) (both-left (leb (length xs) (length array)) _ e)
-
-all-below : (n : ℕ) (t : ℕ → Bool) → ((i : ℕ) → i < n → t i ≡ true) → allBelow n t ≡ true
-unfolding allBelow
-all-below zero t h = refl
-all-below (suc n) t h = rw (all-below n t (λ i l. h i (omega arith)), h n (omega arith))
 
 with-put : (array xs : List ℕ) → length xs ≤ length array → beginsWith (sets array 0 xs) xs ≡ true
 unfolding beginsWith

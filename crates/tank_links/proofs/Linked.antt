@@ -2,7 +2,7 @@
 use Prim.Native.Nat.{ℕ, zero, suc, _+_, _-_, _≤_, _<_}
 use mathlib.Core.Path.{_≡_, refl, sym, ap, _∙_, subst}
 use mathlib.Core.Bool.{Bool, true, false, cond}
-use mathlib.Core.List.{List, [], _∷_, _++_, append-nil}
+use mathlib.Core.List.{List, [], _∷_, _++_, append-nil, append-assoc}
 use native.Mathlib.Nat.{le-of-suc-le-suc, not-suc-le-zero}
 use native.Mathlib.Omega.{arith}
 use borrow.Author.Tests.{lt-ltb, le-ltb, eqb-true, eqb-false}
@@ -58,10 +58,6 @@ from-above test i j (suc m) h = by (test j) (from-above test i (suc j) m (omega 
     by true a = (h, a)
     by false a = a
 
-append-one : {A : Type 0} (xs : List A) (x : A) (ys : List A) → (xs ++ (x ∷ [])) ++ ys ≡ xs ++ (x ∷ ys)
-append-one [] x ys = refl
-append-one (z ∷ xs) x ys = ap (λ (zs : List _). z ∷ zs) (append-one xs x ys)
-
 chosen-from : (test : ℕ → Bool) (m i : ℕ) → chosen test (i + m) ≡ chosen test i ++ from test i m
 unfolding from chosen
 chosen-from test zero i = let z : i + 0 ≡ i = omega arith in ap (chosen test) z ∙ sym (append-nil (chosen test i))
@@ -70,7 +66,7 @@ chosen-from test (suc m) i =
     ap (chosen test) z ∙ chosen-from test m (suc i) ∙ by (test i)
   where
     by : (b : Bool) → cond b (chosen test i ++ (i ∷ [])) (chosen test i) ++ from test (suc i) m ≡ chosen test i ++ cond b (i ∷ from test (suc i) m) (from test (suc i) m)
-    by true = append-one (chosen test i) i (from test (suc i) m)
+    by true = append-assoc (chosen test i) (i ∷ []) (from test (suc i) m)
     by false = refl
 
 from-all : (test : ℕ → Bool) (n : ℕ) → from test 0 n ≡ chosen test n
