@@ -28,13 +28,13 @@ def assembled(case):
 
 class Texts(unittest.TestCase):
     def test_a_drivers_input_comes_back_whole(self):
-        for kind in ("driver", "strain"):
+        for kind in ("driver", "strain", "full"):
             for seed in SEEDS:
                 case = generate.CASES[kind](seed)
                 self.assertEqual(assembled(case), case.input(), f"{kind} {seed}")
 
     def test_the_image_of_a_replay_comes_back_and_its_calls_are_comments(self):
-        for kind in ("replay", "edge", "hours", "slow", "close"):
+        for kind in ("replay", "edge", "hours", "order", "slow", "close"):
             for seed in SEEDS:
                 case = generate.CASES[kind](seed)
                 words = case.project.words()

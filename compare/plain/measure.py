@@ -29,7 +29,9 @@ LARGEST = "thornmoor"
 HOURS_OF_YEAR = 8760
 
 # Valgrind counts each byte of a `rep movsb` as an instruction, so the C library is told to copy without it.
-COPY_BY_VECTORS = {"GLIBC_TUNABLES": "glibc.cpu.x86_rep_movsb_threshold=1000000000"}
+COPY_BY_VECTORS = {
+    "GLIBC_TUNABLES": "glibc.cpu.x86_rep_movsb_threshold=1000000000:glibc.cpu.x86_rep_stosb_threshold=1000000000"
+}
 
 
 @dataclass

@@ -23,7 +23,7 @@ from closing import closed_by_table, closes, groups, is_empty, is_full, summed
 from image import *
 from programs import Program
 from run import chunks
-from steps import NEVER, Levels, causes, control_time, tank_time, time_to_reach
+from steps import NEVER, Levels, causes, control_time, put_load, starting_levels, tank_time, time_to_reach
 from stops import CAUSES as STOP_CAUSES
 from stops import REASONS, shorter_timestep, stops, timetable, unforeseen
 from values import H_TOL, L_TOL, volume
@@ -63,6 +63,8 @@ def count_case(counts, kind, case, answer):
         counts[f"{kind}: {lines[0] if lines[0].startswith('refused') else 'accepted'}"] += 1
     elif kind == "strain":
         count_strain(counts, case)
+    elif kind == "full":
+        count_full(counts, case, text)
     elif kind == "driver":
         counts[f"driver: {'steps' if lines[-1].startswith('steps') else lines[-1]}"] += 1
         counts["driver: steps in all"] += max(len(lines) - 2, 0)
@@ -74,6 +76,8 @@ def count_case(counts, kind, case, answer):
             count_edges(counts, case, lines)
         if kind == "hours":
             count_hours(counts, case, lines)
+        if kind == "order":
+            count_orders(counts, case, lines)
         if kind == "slow":
             count_both_clocks(counts, lines)
             count_stops_so_far(counts, case, lines)
@@ -150,6 +154,76 @@ def count_strain(counts, case):
     for order, inflows in (("in link order", in_link_order), ("with links out first", out + into)):
         levels.demands = [sum(inflows)]
         counts[f"strain: a sum {order} gives another time"] += tank_time(case.project, levels, 0) != right
+
+
+def count_orders(counts, case, lines):
+    """The pairs of controls of two kinds that act at once by one link and set it otherwise, in their order."""
+    for call, line in zip(case.calls, lines):
+        if call.code == CONTROLS_CALL:
+            before = State(case.project, line)
+            acting = [control for control in case.project.controls if is_active(case.project, before, control)]
+            for one, other in itertools.combinations(acting, 2):
+                if one.link == other.link and kind_of(one) != kind_of(other) and is_set_otherwise(one, other):
+                    counts[f"order: {kind_of(one)}, then {kind_of(other)} by one link"] += 1
+
+
+def is_set_otherwise(one, other):
+    """Whether both set a status, or both a setting alone, and not the same."""
+    if one.flags & other.flags & 1:
+        return one.status != other.status
+    return one.flags == other.flags == 2 and one.setting != other.setting
+
+
+def kind_of(control):
+    """The run that a control is in, where each kind has its own."""
+    return {TIME: "time", CLOCK_TIME: "clock time", HIGH_LEVEL: "level", LOW_LEVEL: "level"}.get(control.condition)
+
+
+KINDS = ("level", "time", "clock time")
+
+
+def count_full(counts, case, text):
+    """What the tables are full of, what cuts the first step, and how long the listing is."""
+    project, lines = case.project, text.split("\n")
+    kinds = Counter(map(kind_of, project.controls))
+    for kind in KINDS:
+        counts[f"full: 64 controls, all of the kind {kind}"] += kinds[kind] == MOST_CONTROLS
+    counts["full: 256 nodes and 384 links"] += (len(project.nodes), len(project.links)) == (MOST_NODES, MOST_LINKS)
+    counts["full: a listing of more than 65,536 bytes"] += len(text) > 1 << 16
+    begun = {int(line.split()[0]) for line in lines[2:-2]}
+    counts["full: the last of 64 controls is due where a step begins, and no other"] += is_last_due(project, begun)
+    if project.options.duration:
+        levels = starting_levels(project)
+        put_load(project, levels, case.loads[0])
+        count_first_step(counts, case, levels, lines[1])
+
+
+def is_last_due(project, instants):
+    """Whether at one of the instants the last of 64 controls is due, and no other that goes by the time."""
+    timed = [(number, control) for number, control in enumerate(project.controls) if kind_of(control) != "level"]
+    states = (Levels(instant, [], []) for instant in instants)
+    due = ([number for number, control in timed if is_active(project, state, control)] for state in states)
+    return [MOST_CONTROLS - 1] in due
+
+
+def count_first_step(counts, case, levels, line):
+    """Whether the last tank cuts it by itself, a control late in its run, or one where another kind has none. It has to
+    be as long as the smallest candidate."""
+    project, found = case.project, causes(case.project, levels)
+    length = min(found.values())
+    if line != f"0 {length}":
+        sys.exit(f"the first step is {line}, where the candidates are {found}:\n{generate.text_of(case)}")
+    cut_by = [name for name, seconds in found.items() if seconds == length]
+    if cut_by == ["tank"] and len(project.nodes) == MOST_NODES:
+        first = next(index for index in project.tanks() if tank_time(project, levels, index) == length)
+        counts["full: the tank at the last of 256 nodes cuts a step"] += first == MOST_NODES - 1
+    if len(cut_by) == 1 and cut_by[0].endswith("control"):
+        times = [control_time(project, levels, control) for control in project.controls]
+        kinds = [kind_of(control) for control in project.controls]
+        first = times.index(length)
+        counts["full: a control behind 32 of its kind cuts a step"] += kinds[:first].count(kinds[first]) >= 32
+        for kind in KINDS:
+            counts[f"full: a control cuts a step where none is of the kind {kind}"] += kind not in kinds
 
 
 def count_project(counts, project):
@@ -682,6 +756,12 @@ def expected():
     yield from named("hours", ["system time in more than 24 bits"])
     orders = ("in link order", "with links out first")
     yield from named("strain", (f"a sum {order} gives another time" for order in orders))
+    yield from named("order", (f"{one}, then {other} by one link" for one, other in itertools.permutations(KINDS, 2)))
+    yield from named("full", (f"64 controls, all of the kind {kind}" for kind in KINDS))
+    yield from named("full", (f"a control cuts a step where none is of the kind {kind}" for kind in KINDS))
+    yield from named("full", ["the last of 64 controls is due where a step begins, and no other"])
+    yield from named("full", ["a control behind 32 of its kind cuts a step", "256 nodes and 384 links"])
+    yield from named("full", ["the tank at the last of 256 nodes cuts a step", "a listing of more than 65,536 bytes"])
 
 
 TRUTHS = ("true", "false")

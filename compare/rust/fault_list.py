@@ -58,9 +58,9 @@ class Fault:
         return f"{self.file}:{min(lines)}" if lines else f"oracle {self.file}"
 
 
-def fault(words, file, *changes):
+def fault(words, file, *changes, shows_in="other"):
     """A fault in the reference, from (line, old, new) or (line, old, new, which)."""
-    return Fault(words, file, tuple(Token(*change) for change in changes))
+    return Fault(words, file, tuple(Token(*change) for change in changes), shows_in=shows_in)
 
 
 def reading(words, file, *changes):
@@ -99,6 +99,59 @@ def tank_sums(words, changed, before=""):
         "let out = found.links_from.iter().map(|&link| (link, -state.flows[link])); "
         "let mut inflows: Vec<(usize, f64)> = into.chain(out).collect(); "
         f"{changed} state.demands[tank] = inflows.iter().fold(0.0, |sum, inflow| sum + inflow.1); }} }}")
+
+
+PATTERNS_APPLIED = "state.apply_patterns(network, time);"
+
+
+def period_call(words, new):
+    """A fault in when the oracle works patterns out: it has the instants at which it did, and goes by their periods."""
+    return reading(
+        words, "progress.rs",
+        ("    count: usize,\n}", "    count: usize,\n    worked_out: Vec<usize>,\n}"),
+        ("count: 0,", "count: 0, worked_out: Vec::new(),"),
+        (PATTERNS_APPLIED,
+         "let times = &network.options.time_options; "
+         "let period = |time| (times.pattern_start + time) / times.pattern_timestep; "
+         "let last = self.worked_out.last().copied(); "
+         f"let goes_on = last.is_some_and(|last| period(last) == period(time)); {new}"))
+
+
+def lost(words, what):
+    """A fault about where the second chunk of a listing begins."""
+    again = f"state.{what} = SolverState::new_with_initial_values(network).{what};"
+    change = Passage(PATTERNS_APPLIED, f"if self.count == 4_800 {{ {again} }} {PATTERNS_APPLIED}")
+    return Fault(words, "progress.rs", (change,), True, "run")
+
+
+def run_fault(words, file, *changes):
+    """A fault in the reference that a driver's runs have to find."""
+    return fault(words, file, *changes, shows_in="run")
+
+
+def by_kind(words, key):
+    """A fault in the order in which controls act."""
+    return fault(words, STATE,
+                 (150, "&network.controls", "{ let mut controls: Vec<_> = network.controls.iter().collect(); "
+                                            f"controls.sort_by_key(|control| {key}); controls }}"), shows_in="order")
+
+
+def empty_kind(words, kind):
+    """A fault in the smallest time of the controls, where none is of a kind."""
+    return run_fault(words, SIMULATION,
+                     (329, "t_controls", f"if network.controls.iter().any(|control| {KIND} == {kind}) "
+                                         "{ t_controls } else { 0 }"))
+
+
+def asked(words, chosen):
+    """A fault in which controls are asked for their times."""
+    return run_fault(words, SIMULATION, (294, "iter()", f"iter(){chosen}"))
+
+
+def asked_of_a_kind(most):
+    """So many controls of each kind, from the first."""
+    return (f".filter({{ let mut asked = [0; 4]; move |control| {{ let kind = {KIND}; asked[kind] += 1; "
+            f"asked[kind] <= {most} }} }})")
 
 
 TANK, CONTROL, RULE, LINK = "model/tank.rs", "model/control.rs", "model/rule.rs", "model/link.rs"
@@ -712,7 +765,153 @@ BROKEN_LISTS = [
     reading("number 17 in place of 18", "replay.rs", ("BROKEN_LIST: Fault = 18", "BROKEN_LIST: Fault = 17")),
 ]
 
+IS_TANK = "matches!(node.node_type, NodeType::Tank(_))"
+EACH_TANK = f"for (tank, _) in network.nodes.iter().enumerate().filter(|(_, node)| {IS_TANK})"
+
+PERIODS = [
+    period_call("where the period changes, the patterns of the one before stay in force once more",
+                "state.apply_patterns(network, last.unwrap_or(time)); self.worked_out.push(time);"),
+    period_call("a period has the patterns of the one before to its end",
+                "if !goes_on { self.worked_out.push(time); } "
+                "let late = *self.worked_out.iter().nth_back(1).unwrap_or(&time); "
+                "state.apply_patterns(network, late);"),
+    period_call("patterns are worked out once and never again",
+                "self.worked_out.push(time); state.apply_patterns(network, self.worked_out[0]);"),
+    period_call("a period goes on as long as it would without the pattern start",
+                "let period = |time| time / times.pattern_timestep; "
+                "let kept = last.filter(|&last| period(last) == period(time)).unwrap_or(time); "
+                "state.apply_patterns(network, kept); self.worked_out.push(kept);"),
+    period_call("period 0 is in force at the start",
+                f"if period(time) > 0 {{ {PATTERNS_APPLIED} }} {EACH_TANK} {{ state.demands[tank] = 0.0; }}"),
+    period_call("in a period that goes on tanks keep their demands",
+                f"if !goes_on {{ {PATTERNS_APPLIED} self.worked_out.push(time); }}"),
+    period_call("reservoirs' heads are worked out once and never again",
+                f"let heads = state.heads.clone(); {PATTERNS_APPLIED} self.worked_out.push(time); "
+                "if last.is_some() { state.heads = heads; }"),
+    period_call("under PDA demand flows are copied the first time only",
+                f"let demand_flows = state.demand_flows.clone(); {PATTERNS_APPLIED} self.worked_out.push(time); "
+                "if last.is_some() { state.demand_flows = demand_flows; }"),
+    period_call("under PDA a tank's demand is copied before it goes back to 0",
+                f"let demands = state.demands.clone(); {PATTERNS_APPLIED} "
+                "if network.options.demand_model == epanet_rs::model::options::DemandModel::PDA "
+                f"{{ {EACH_TANK} {{ state.demand_flows[tank] = demands[tank]; }} }}"),
+]
+
+WITH_NEXT = "iter().zip(network.nodes.iter().skip(1).chain(network.nodes.last()))"
+TANK_NUMBER = f"network.nodes[..*tank_index].iter().filter(|node| {IS_TANK}).count()"
+FIRST_TANK = f"network.nodes.iter().position(|node| {IS_TANK})"
+FIRST_LEVEL = "state.heads[first] - network.nodes[first].elevation"
+
+ROWS = [
+    reading("a reservoir with a pattern has the head of the one before it in the table", "progress.rs",
+            (PATTERNS_APPLIED,
+             f"{PATTERNS_APPLIED} let patterned: Vec<usize> = (0..network.nodes.len()).filter(|&node| matches!("
+             "&network.nodes[node].node_type, NodeType::Reservoir(found) if found.head_pattern_index.is_some()))"
+             ".collect(); for pair in patterned.windows(2).rev() { state.heads[pair[1]] = state.heads[pair[0]]; }")),
+    fault("a node's demands are those of the node behind it", STATE,
+          (115, "iter()", WITH_NEXT), (116, "n", "(n, next)"), (122, "n.", "next.")),
+    fault("a junction's fourth demand is the first of the node behind it", STATE,
+          (115, "iter()", WITH_NEXT), (116, "n", "(n, next)"),
+          (127, "iter()", "iter().enumerate().map(|(place, own)| match &next.node_type { "
+                          "NodeType::Junction(found) if place == 3 => found.demands.first().unwrap_or(own), "
+                          "_ => own })")),
+    fault("a junction's demands all go by the pattern of the first", STATE,
+          (128, "demand.pattern_index", "junction.demands[0].pattern_index")),
+    reading("a junction's head is at its node's place in a load", "progress.rs",
+            ("let mut heads = load.heads.into_iter();", "let heads = load.heads;"),
+            ('heads.next().expect("a head for each junction")', "heads.get(index).copied().unwrap_or(0.0)")),
+    fault("a control puts the setting of the one before it in the table", CONTROL,
+          (177, "self.setting", "self.setting.map(|own| network.controls.iter()"
+                                ".take_while(|control| !std::ptr::eq(*control, self)).last()"
+                                ".map_or(own, |control| control.setting.unwrap_or(0.0)))")),
+    run_fault("a level control acts by the head at its tank's number", CONTROL,
+              (152, "*tank_index", TANK_NUMBER), (160, "*tank_index", TANK_NUMBER)),
+    run_fault("a level control's time goes by head and demand at its tank's number", SIMULATION,
+              (312, "*tank_index", TANK_NUMBER), (313, "*tank_index", TANK_NUMBER)),
+    run_fault("a level control's time is that of the tank whose number its node has", SIMULATION,
+              (310, "let", "let Some((tank_index, _)) = &network.nodes.iter().enumerate()"
+                           f".filter(|(_, node)| {IS_TANK}).nth(*tank_index) else {{ return usize::MAX }}; let")),
+    run_fault("a level control of no tank acts by the first tank's level", CONTROL,
+              (150, "false", f"{FIRST_TANK}.is_some_and(|first| {FIRST_LEVEL} - *target >= -L_TOL)"),
+              (158, "false", f"{FIRST_TANK}.is_some_and(|first| {FIRST_LEVEL} - *target <= L_TOL)")),
+    run_fault("a level control of no tank takes the first tank's time", SIMULATION,
+              (315, "usize::MAX",
+               f"{FIRST_TANK}.map_or(usize::MAX, |first| match &network.nodes[first].node_type {{ "
+               f"NodeType::Tank(tank) => tank.time_to_reach_level({FIRST_LEVEL}, *target, state.demands[first]), "
+               "_ => usize::MAX })")),
+    run_fault("a tank moves by the demand at its number", STATE,
+              (181, "tank_index", TANK_NUMBER.replace("*tank_index", "tank_index"))),
+    run_fault("the last tank is not timed", SIMULATION,
+              (279, "iter()", f"iter().take(network.nodes.iter().rposition(|node| {IS_TANK}).unwrap_or(0))")),
+    fault("a tank's overflow flag is the one at its node's number", SOLVER,
+          (482, "tank.overflow", "network.nodes.iter().filter_map(|node| match &node.node_type { "
+                                 "NodeType::Tank(found) => Some(found.overflow), _ => None }).nth(tank_index)"
+                                 ".unwrap_or(false)")),
+]
+
+NOT_LAST_INTO, NOT_LAST_OUT = (f"tank.links_{way}.last() != Some(link_index)" for way in ("to", "from"))
+
+GROUPS = [
+    fault("the last link into a tank is not closed", SOLVER,
+          *((line, "if", f"if {NOT_LAST_INTO} &&") for line in (487, 490))),
+    fault("the last link out of a tank is not closed", SOLVER,
+          *((line, "if", f"if {NOT_LAST_OUT} &&") for line in (496, 499))),
+    table_call("the last link of a tank is not closed by the table",
+               "let before = self.state().statuses.clone(); self.close(); "
+               "let (network, state) = parts(&mut self.simulation); for node in &network.nodes { "
+               "if let NodeType::Tank(tank) = &node.node_type { "
+               "if let Some(&last) = tank.links_from.last().or(tank.links_to.last()) "
+               "{ state.statuses[last] = before[last]; } } }"),
+    run_fault("the last link into a tank is not summed", SOLVER,
+              (486, "state.flows", f"f64::from({NOT_LAST_INTO}) * state.flows")),
+    run_fault("the last link out of a tank is not summed", SOLVER,
+              (495, "state.flows", f"f64::from({NOT_LAST_OUT}) * state.flows")),
+    run_fault("the last link into a tank is one out of it", SOLVER,
+              *((line, "state.flows", f"(if {NOT_LAST_INTO} {{ 1.0 }} else {{ -1.0 }}) * state.flows")
+                for line in (486, 487, 490))),
+    run_fault("a link between two tanks stands at the first of them alone", "model/network/mod.rs",
+              (247, ";", "; let joins_tanks = [start_node, end_node].iter()"
+                         f".all(|&end| {{ let node = &self.nodes[end]; {IS_TANK} }});"),
+              (252, "if", "if !(joins_tanks && start_node < end_node) &&"),
+              (255, "if", "if !(joins_tanks && end_node < start_node) &&")),
+    reading("a load sums a link between two tanks at its end alone", "progress.rs",
+            ("if matches!(network.nodes[link.start_node]", "else if matches!(network.nodes[link.start_node]")),
+]
+
+KIND = ("match control.condition { ControlCondition::LowLevel { .. } | ControlCondition::HighLevel { .. } => 0, "
+        "ControlCondition::Time { .. } => 1, ControlCondition::ClockTime { .. } => 2, _ => 3 }")
+
+BY_KIND = [
+    by_kind("levels act first, then times, then clock times", KIND),
+    by_kind("clock times act first, then times, then levels", f"3 - {KIND}"),
+    empty_kind("without level controls the smallest time is 0", 0),
+    empty_kind("without time controls the smallest time is 0", 1),
+    empty_kind("without clock controls the smallest time is 0", 2),
+    asked("without time controls the clock controls are not asked",
+          f".filter(|control| {KIND} != 2 || network.controls.iter().any(|control| {KIND} == 1))"),
+    asked("only the first control of a kind is asked", asked_of_a_kind(1)),
+    asked("only the last control of a kind is asked", f".rev(){asked_of_a_kind(1)}"),
+    asked("the times of the kind that is asked last hide the others'",
+          f".filter(|control| {{ let kind = {KIND}; "
+          f"!network.controls.iter().any(|control| kind < {KIND} && {KIND} < 3) }})"),
+]
+
+FULL = [
+    fault("the last of 32 patterns is none", STATE,
+          (128, "default_pattern_idx)", "default_pattern_idx).filter(|&index| index != 31)")),
+    asked("the last of 64 controls is not asked", ".take(63)"),
+    asked("no more than 32 controls of a kind are asked", asked_of_a_kind(32)),
+    asked("no more than 63 controls of a kind are asked", asked_of_a_kind(63)),
+    run_fault("the last of 64 controls does not act", STATE,
+              (150, "&network.controls", "network.controls.iter().take(63)")),
+    run_fault("the tank at the last of 256 nodes is not timed", SIMULATION, (279, "iter()", "iter().take(255)")),
+    run_fault("the last of 384 links is not summed", SOLVER,
+              *((line, "state.flows", "f64::from(*link_index != 383) * state.flows") for line in (486, 495))),
+    lost("the second chunk of a listing begins with the flows of the start", "flows"),
+    lost("the second chunk of a listing begins with the heads of the start", "heads"),
+]
+
 FAULTS = [
     *TEMPTING, *TANKS, *PATTERNS, *CONTROLS, *LINKS, *CLOSING, *STEPS, *PREMISES, *IMAGES, *LOADS, *CALLS, *DRIVING,
-    *SECOND_CLOCK, *FORESEEN, *TIMETABLE, *BY_THE_TABLE, *BROKEN_LISTS,
+    *SECOND_CLOCK, *FORESEEN, *TIMETABLE, *BY_THE_TABLE, *BROKEN_LISTS, *PERIODS, *ROWS, *GROUPS, *BY_KIND, *FULL,
 ]

@@ -34,15 +34,26 @@ FIRST_PIECE, LONGEST_PIECE = 25, 400
 # Seconds for a piece. A planted fault might let a run step on for ever.
 PATIENCE = 60
 
-# An image's faults show in images first, a driver's in the driver, those of the second clock and of closing by the
-# table in their own lists, and those of a timetable in timetables.
+KINDS = ("replay", "edge", "hours", "order", "driver", "strain", "full", "slow", "stops", "close", "image", "sweep")
+
+
+def led_by(*first):
+    """All kinds, these in front."""
+    return (*first, *(kind for kind in KINDS if kind not in first))
+
+
+# An image's faults show in images first, a driver's in the driver, those of the second clock, of closing by the table
+# and of the controls' order in their own lists, and those of a timetable in timetables. Those of a run have to show in
+# the driver, which works through its tables step after step.
 ORDERS = {
-    "image": ("sweep", "image", "replay", "edge", "hours", "driver", "strain", "slow", "stops", "close"),
-    "driver": ("driver", "strain", "replay", "edge", "hours", "slow", "stops", "close", "image", "sweep"),
-    "slow": ("slow", "replay", "edge", "hours", "driver", "strain", "stops", "close", "image", "sweep"),
-    "stops": ("stops", "slow", "replay", "edge", "hours", "driver", "strain", "close", "image", "sweep"),
-    "close": ("close", "replay", "edge", "hours", "driver", "strain", "slow", "stops", "image", "sweep"),
-    "other": ("replay", "edge", "hours", "driver", "strain", "slow", "stops", "close", "image", "sweep"),
+    "image": led_by("sweep", "image"),
+    "driver": led_by("driver", "strain", "full"),
+    "slow": led_by("slow"),
+    "stops": led_by("stops", "slow"),
+    "close": led_by("close"),
+    "order": led_by("order"),
+    "run": ("driver", "strain", "full"),
+    "other": KINDS,
 }
 
 # Built for a quick build: what the oracle answers does not depend on it.
@@ -131,7 +142,7 @@ def place_of(fault):
 def make_cases(ours, seed, count):
     """For each kind a list of a number, a mode, an input and our answer."""
     numbered = {"sweep": list(enumerate(limits.sweep()))}
-    for kind in ORDERS["other"][:-1]:
+    for kind in KINDS[:-1]:
         numbered[kind] = [(number, generate.CASES[kind](number)) for number in range(seed, seed + count)]
     answered = {}
     for kind, entries in numbered.items():

@@ -1,8 +1,9 @@
 #!/usr/bin/env python3
 """Random projects, lists of calls, driver inputs and damaged images, each fixed by its seed.
 
-    generate.py --replay SEED | --edge SEED | --hours SEED | --slow SEED | --close SEED | --driver SEED |
-                --strain SEED | --stops SEED | --image SEED | --sweep NUMBER [--out FILE] [--text]
+    generate.py --replay SEED | --edge SEED | --hours SEED | --order SEED | --slow SEED | --close SEED |
+                --driver SEED | --strain SEED | --full SEED | --stops SEED | --image SEED | --sweep NUMBER
+                [--out FILE] [--text]
 
 A sweep's images are not random: they try each field's limits, each header and each table's end one by one.
 With --text the image and its loads are written as the text of tools/image; why the input is refused stands in front,
@@ -21,7 +22,7 @@ import damage
 import image_show
 import limits
 from image import *
-from steps import Levels, advance, put_load, starting_levels, time_to_reach
+from steps import Levels, advance, put_load, start_head, starting_levels, time_to_reach
 from stops import shorter_timestep, stops
 from values import *
 from walk import refusals
@@ -108,6 +109,14 @@ def hours_case(seed):
     return Replay(project, calls)
 
 
+def order_case(seed):
+    """Lists in which controls of several kinds act at once by one link, so that their order shows."""
+    chance = Chance(f"order {seed}")
+    project = order_project(chance)
+    loads = [moment.load for moment in make_moments(chance, project, most=6)]
+    return Replay(project, [call for load in loads for call in driver_cycle(chance, project, load)])
+
+
 def slow_case(seed):
     """Lists with the second clock's call among the others, on projects that it serves and some that it refuses."""
     chance = Chance(f"slow {seed}")
@@ -149,6 +158,16 @@ def strained(chance, tank, links):
     chance.shuffle(inflows)
     flows = [inflow if link.end == 0 else -inflow for inflow, link in zip(inflows, links)]
     return Load(flows, [chance.uniform(0.0, 100.0)])
+
+
+def full_case(seed):
+    """A driver's run on tables that are full, of few flows, so that the last control, tank and link show in the steps;
+    now and then one whose listing is longer than the program under comparison writes at once."""
+    chance = Chance(f"full {seed}")
+    if chance.one_in(40):
+        return long_run(chance)
+    project = full_project(chance)
+    return Drive(project, [quiet_load(chance, project) for _ in range(chance.randint(1, 3))])
 
 
 def stops_case(seed):
@@ -867,6 +886,105 @@ def broken_list(chance, case):
     return case
 
 
+# Controls in order
+
+
+def order_project(chance):
+    """One or two links at a tank, and controls of them that are due at the same few instants or go by its level."""
+    each = chance.choice((60, 900, HOUR))
+    options = Options(8 * each, each, each, each, start_clock=chance.randrange(DAY))
+    project = Project(options, [], [tank_between(chance), Reservoir(50.0), Junction()])
+    project.links = [Link(*two_ends(chance, 0, 3), sort=VALVE) for _ in range(chance.randint(1, 2))]
+    project.controls = [order_control(chance, project, each) for _ in range(chance.randint(4, 12))]
+    return project
+
+
+def order_control(chance, project, each):
+    control = control_of(chance, project, chance.choice((HIGH_LEVEL, LOW_LEVEL, TIME, CLOCK_TIME)))
+    set_action(chance, control, chance.choice((1, 2)))
+    due = each * chance.randint(0, 3)
+    if control.condition == TIME:
+        control.subject = due
+    elif control.condition == CLOCK_TIME:
+        control.subject = (project.options.start_clock + due) % DAY
+    else:
+        control.subject, control.target = 0, chance.uniform(0.0, 10.0)
+    return control
+
+
+# Runs on full tables
+
+
+def full_project(chance):
+    """As many controls as there may be, of some kinds only; or as many nodes and links; or both. The last node is a
+    tank, the last link is at it, and the last control sets that."""
+    is_large = chance.one_in(3)
+    project = Project(full_options(chance))
+    project.nodes = [full_node(chance, project) for _ in range(MOST_NODES if is_large else chance.randint(2, 6))]
+    project.nodes[-1] = tank_between(chance)
+    project.links = [make_link(chance, project) for _ in range(MOST_LINKS if is_large else chance.randint(1, 8))]
+    last = project.links[-1]
+    last.start, last.end = two_ends(chance, len(project.nodes) - 1, len(project.nodes))
+    conditions = chance.choice(((HIGH_LEVEL, LOW_LEVEL), (TIME,), (CLOCK_TIME,), chance.sample(range(6), 3)))
+    count = chance.randint(1, MOST_CONTROLS) if is_large and chance.one_in(2) else MOST_CONTROLS
+    project.controls = [full_control(chance, project, chance.choice(conditions)) for _ in range(count)]
+    project.controls[-1].link = len(project.links) - 1
+    shorten(chance, project, most_steps=200)
+    return project
+
+
+def full_options(chance):
+    """Long timesteps, so that tanks and controls cut the steps."""
+    return timed_options(chance, *chance.choices((DAY, 7 * DAY, LONGEST_TIME), k=3))
+
+
+def full_node(chance, project):
+    """Mostly a tank that leaves the others their times."""
+    return make_node(chance, project, True) if chance.one_in(4) else tank_between(chance)
+
+
+def tank_between(chance):
+    """A tank with some room above its level and below."""
+    return Tank(make_elevation(chance), chance.uniform(2.0, 8.0), greatest=10.0, diameter=diameter(chance))
+
+
+def full_control(chance, project, condition):
+    """A control that goes by the last tank as often as by any other node, where it goes by a level."""
+    control = control_of(chance, project, condition)
+    if condition in (HIGH_LEVEL, LOW_LEVEL) and chance.one_in(2):
+        control.subject, control.target = len(project.nodes) - 1, chance.uniform(0.0, 10.0)
+    return control
+
+
+def quiet_load(chance, project):
+    """A load with flows by the last link and perhaps one more, which take a tank at its start somewhere."""
+    flows = [0.0] * len(project.links)
+    for number in (chance.randrange(len(flows)), len(flows) - 1):
+        link = project.links[number]
+        tanks = [node for node in (link.start, link.end) if isinstance(project.nodes[node], Tank)]
+        if tanks:
+            tank = chance.choice(tanks)
+            inflow = timed_flow(chance, project, tank, start_head(project.nodes[tank]))
+            flows[number] = inflow if link.end == tank else -inflow
+    return Load(flows, [make_head(chance, project, index) for index in project.junctions()])
+
+
+def long_run(chance):
+    """Some thousand steps, in the later half of which the tank is full or empty, unless a control turns its flow; it
+    passes the targets of others on the way."""
+    each, steps = chance.choice((HOUR, 10 * HOUR)), chance.randint(5_000, 7_000)
+    options = Options(each * steps, LONGEST_TIME, each, each, start_clock=chance.randrange(DAY))
+    tank = tank_between(chance)
+    tank.diameter = chance.uniform(100.0, 1_000.0)
+    gap = volume(tank, chance.choice((tank.least, tank.greatest))) - volume(tank, tank.initial)
+    flow = gap / (options.duration * chance.uniform(0.5, 1.0))
+    project = Project(options, [], [tank, Reservoir(50.0)], [Link(1, 0, PUMP, OPEN, -flow, 1.0)])
+    project.controls = [Control(HIGH_LEVEL, 0, chance.uniform(tank.least, tank.greatest)) for _ in range(4)]
+    if chance.one_in(3):
+        project.controls.append(Control(TIME, chance.randrange(options.duration), flags=1, status=OPEN))
+    return Drive(project, [Load([flow], [])])
+
+
 # The timetable
 
 # The program under comparison works out so many stops at once.
@@ -971,10 +1089,12 @@ CASES = {
     "replay": replay_case,
     "edge": edge_case,
     "hours": hours_case,
+    "order": order_case,
     "slow": slow_case,
     "close": close_case,
     "driver": drive_case,
     "strain": strain_case,
+    "full": full_case,
     "stops": stops_case,
     "image": image_case,
     "sweep": sweep_case,

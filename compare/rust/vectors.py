@@ -35,7 +35,7 @@ BY_TABLE = ["close"]
 ORDER = KINDS + SECOND_CLOCK + BY_TABLE
 # Of these kinds only what coverage.py says of their subjects counts.
 SUBJECTS = {"slow": ("slow: ",), "close": ("table: ", "list: ")}
-OTHER_KINDS = ("driver", "edge", "hours", "strain", "stops")
+OTHER_KINDS = ("driver", "edge", "hours", "order", "strain", "full", "stops")
 NARROW = {"edge": (1, 2, 3, 35, 63, 422), "hours": (1, 2, 149, 155)}  # seeds
 LARGE = 20_000  # bytes of input and answer
 SECOND_CLOCK_SEEDS = 1000  # the walks are worked out again in Python, which takes its time

@@ -7,7 +7,7 @@ use borrow.Author.Tests.{lt-ltb}
 use Rattle.clock.specs.Triggers.{Trigger}
 use Rattle.model.specs.declared.control.Control.{Control}
 use Rattle.model.proofs.Pointwise.{each-at}
-use Rattle.simulation.specs.Steps.{Level}
+use Rattle.control.specs.Controls.{Level}
 use Rattle.awaited.specs.Awaited.{NEVER, triggerIn, notes}
 
 pub notes-at : (of : Trigger Level → ℕ) (controls : List Control) (n i : ℕ) → n ≤ 64 → i < n → getD (notes of controls n) i 0 ≡ of (triggerIn controls i)

@@ -2,12 +2,12 @@
 -- Walks.antt), and so are the stops ahead (stops_ahead/proofs/Following.antt).
 use Prim.Native.Nat.{ℕ}
 use mathlib.Core.List.{List}
-use lib.ListN.{getD, set, replicate}
+use lib.ListN.{set, replicate}
 use Rattle.clock.specs.Triggers.{Trigger, atTime, atClock, atLevel, untimed}
-use Rattle.model.specs.Blank.{blankControl}
 use Rattle.model.specs.Loops.{through}
 use Rattle.model.specs.declared.control.Control.{Control}
-use Rattle.simulation.specs.Steps.{Level, listed, triggerOf}
+use Rattle.control.specs.Controls.{Level}
+pub use Rattle.run_candidates.specs.Triggers.{triggerIn, triggersIn}
 use Rattle.awaited.specs.declared.Awaited.{Awaited}
 
 -- no instant of a run, and no clock time
@@ -27,14 +27,7 @@ clockOf (atClock s) = s
 clockOf (atLevel l) = NEVER
 clockOf untimed = NEVER
 
--- the first n controls of a table
-abbrev pub triggerIn : List Control → ℕ → Trigger Level
-triggerIn controls i = triggerOf (getD controls i blankControl .condition)
-
-abbrev pub triggersIn : List Control → ℕ → List (Trigger Level)
-triggersIn controls n = listed n (triggerIn controls)
-
--- what each of them waits for
+-- what each of the first n controls of a table waits for
 abbrev pub noted : (Trigger Level → ℕ) → List Control → ℕ → List ℕ → List ℕ
 noted of controls i seconds = set seconds i (of (triggerIn controls i))
 

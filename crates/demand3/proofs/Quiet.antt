@@ -11,8 +11,9 @@ use Rattle.model.proofs.Loops.{kept}
 use Rattle.judge.specs.Judgement.{inOrder}
 use Rattle.state.specs.Start.{startNodes, startLinks, newWithInitialValues}
 use Rattle.state.specs.Patterns.{applyPatterns}
-use Rattle.state.specs.Controls.{applyControls}
-use Rattle.load.specs.Loads.{loadFault, loadFlows, takeLoad}
+use Rattle.state.proofs.Controlled.{controls-keep-clock}
+use Rattle.load.specs.Loads.{loadFault, takeLoad}
+use Rattle.load.proofs.Loaded.{load-keeps-clock}
 use Rattle.solver.specs.Pressure.{applyPressureControls}
 use Rattle.solver.specs.declared.pressure.Pressed.{Pressed}
 use Rattle.calls.specs.Calls as calls
@@ -32,15 +33,6 @@ use Rattle.demand3.proofs.OwnTable.{by-own-table}
 patterns-quiet : (p : Project) (s : State) → applyPatterns p s .clock ≡ s .clock
 unfolding applyPatterns
 patterns-quiet p s = kept (λ (u : State). u .clock) _ s (λ i u. refl) (p .counts .nodes)
-
-controls-quiet : (p : Project) (s : State) → applyControls p s .clock ≡ s .clock
-unfolding applyControls
-controls-quiet p s = kept (λ (u : State). u .clock) _ s (λ i u. refl) (p .counts .controls)
-
-load-quiet : (p : Project) (words : List ℕ) (s : State) → takeLoad p words s .clock ≡ s .clock
-unfolding takeLoad loadFlows
-load-quiet p words s =
-    kept (λ (u : State). u .clock) _ _ (λ i u. refl) (p .counts .nodes) ∙ kept (λ (u : State). u .clock) _ s (λ i u. refl) (p .counts .links)
 
 pressure-quiet : (p : Project) (s : State) → applyPressureControls p s .state .clock ≡ s .clock
 unfolding applyPressureControls
@@ -65,7 +57,7 @@ asked-quiet (Truth b) s = refl
 asked-quiet (Refused n) s = refl
 
 loaded-quiet : (p : Project) (words : List ℕ) (s : State) (b : Bool) → cond b (gives 0 (takeLoad p words s)) (gives (loadFault p words) s) .state .clock ≡ s .clock
-loaded-quiet p words s true = load-quiet p words s
+loaded-quiet p words s true = load-keeps-clock p words s
 loaded-quiet p words s false = refl
 
 pressed-quiet : (p : Project) (s : State) (b : Bool)
@@ -77,7 +69,7 @@ pressed-quiet p s false = refl
 pub quiet : (p : Project) (c : Call) (s : State) → isStep (secondApplies p) c ≡ false → outcome p c s .state .clock ≡ s .clock
 unfolding outcome calls.patterns calls.controls calls.load calls.tankLinks calls.pressure
 quiet p patterns s e = judged-quiet p s _ (patterns-quiet p s)
-quiet p controls s e = judged-quiet p s _ (controls-quiet p s)
+quiet p controls s e = judged-quiet p s _ (controls-keep-clock p s)
 quiet p (load words) s e = judged-quiet p s _ (loaded-quiet p words s (eqb (loadFault p words) 0))
 quiet p tankLinks s e = judged-quiet p s _ (clock-kept p s)
 quiet p pressure s e = pressed-quiet p s (inOrder p s)

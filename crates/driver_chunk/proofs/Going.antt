@@ -19,9 +19,8 @@ use Rattle.model.specs.declared.state.State.{State}
 use Rattle.judge.specs.Judgement.{inOrder}
 use Rattle.calls_sound.proofs.Theorem.{state-of}
 use Rattle.driver_load.specs.Sizes.{loadBytes}
-use Rattle.driver_turn.specs.declared.Turned.{Turned}
 use Rattle.driver_turn.specs.Turns.{Turn, turn}
-use Rattle.driver_turn.specs.Turned.{TurnedAs}
+use Rattle.driver_turn.specs.Turned.{Turned, TurnedAs}
 use Rattle.driver_chunk.specs.Runs.{turns}
 use Rattle.driver_chunk.specs.Chunks.{wantsInput, canTurn, TurnsRan}
 use Rattle.driver_chunk.proofs.Turning.{Known, known, turn-more, turn-done}
@@ -173,12 +172,11 @@ module _ {p : Project} {s : State} {input : List ℕ} {whole : Bool} {before aft
 
   -- where it can make no turn and has made none, it waits for input
   pub going-ended : canTurn over wants (length after - written) ≡ false
-      → TurnsRan p s input whole before after (record { number = 0; state = state; used = used; written = written; over = over; wants = wants })
+      → TurnsRan p s input whole before after (record { state = state; used = used; written = written; over = over; wants = wants })
   going-ended stop =
       record {
         count = g .count;
         lines = g .lines;
-        accepted = refl;
         made = g .put .made;
         written = omega (arith, g .put .place);
         room = g .put .room;

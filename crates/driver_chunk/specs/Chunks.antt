@@ -6,12 +6,15 @@ use mathlib.Core.Bool.{Bool, true, false, cond}
 use mathlib.Core.Logic.{_⊎_}
 use mathlib.Core.List.{List, [], _++_}
 use lib.Dec.{ltb, leb, eqb}
+use lib.Ieee.{Float}
 use lib.ListN.{length, take, drop}
 use Rattle.listing.specs.Text.{pasted}
 use Rattle.listing.specs.Listing.{Line, textOf}
 use Rattle.model.specs.declared.project.Project.{Project}
 use Rattle.model.specs.declared.state.State.{State}
 use Rattle.judge.specs.Judgement.{inOrder}
+use Rattle.driver_tables.specs.Laid.{Laid}
+use Rattle.driver_tables.specs.declared.Tables.{Tables}
 use Rattle.driver_load.specs.Sizes.{loadBytes}
 use Rattle.driver_chunk.specs.declared.Chunk.{Chunk}
 use Rattle.driver_chunk.specs.Runs.{turns}
@@ -29,7 +32,6 @@ canTurn over wants room = cond over false (cond (eqb wants 0) (leb 22 room) fals
 pub record TurnsRan (p : Project) (s : State) (input : List ℕ) (whole : Bool) (before after : List ℕ) (r : Chunk) : Type 0 where
   pub count : ℕ
   pub lines : List Line
-  pub accepted : r .number ≡ 0
   pub made : after ≡ pasted before 0 (textOf lines)
   pub written : r .written ≡ length (textOf lines)
   pub room : r .written ≤ length before
@@ -43,19 +45,23 @@ pub record TurnsRan (p : Project) (s : State) (input : List ℕ) (whole : Bool) 
   pub goes : r .over ≡ false → 22 ≤ length before → (s .clock .instant < r .state .clock .instant) ⊎ ((r .wants ≡ 0 → ⊥) × (s .clock .instant ≡ r .state .clock .instant))
   pub moves : r .over ≡ false → 22 ≤ length before → (whole ≡ true) ⊎ (loadBytes p ≤ length input) → s .clock .instant < r .state .clock .instant
 
--- "every later call, first: 10"; "a refused call yields the number and the same state"
-abbrev pub refusedChunk : State → Chunk
-refusedChunk s = record { number = 10; state = s; used = 0; written = 0; over = true; wants = 0 }
+-- what a chunk asks: a project, in order with the state, whose tables and multipliers they are
+pub record RunOf (t : Tables) (multipliers : List Float) (s : State) : Type 0 where
+  pub project : Project
+  pub laid : Laid project t
+  pub same : multipliers ≡ project .multipliers
+  pub ordered : inOrder project s ≡ true
 
-pub record Advanced (p : Project) (s : State) (input : List ℕ) (whole : Bool) (before after : List ℕ) (r : Chunk) : Type 0 where
-  pub refused : inOrder p s ≡ false → (r ≡ refusedChunk s) × (after ≡ before)
-  pub ran : inOrder p s ≡ true → TurnsRan p s input whole before after r
+-- and what it promises of every such project
+abbrev pub Advanced : Tables → List Float → State → List ℕ → Bool → List ℕ → List ℕ → Chunk → Type 0
+Advanced t multipliers s input whole before after r =
+    (p : Project) → Laid p t → multipliers ≡ p .multipliers → inOrder p s ≡ true → TurnsRan p s input whole before after r
 
 -- A run made in chunks, as the program makes it: from s on the bytes, with the text that it writes in all. Each chunk is given a front of the bytes
 -- that are left; where it is told that no more comes, there is no more.
 pub data Chunked (p : Project) : State → List ℕ → List ℕ → Type 0 where
-  last : {s : State} {input rest : List ℕ} {whole : Bool} {before after : List ℕ} {r : Chunk} → Advanced p s input whole before after r
+  last : {s : State} {input rest : List ℕ} {whole : Bool} {before after : List ℕ} {r : Chunk} → TurnsRan p s input whole before after r
       → (whole ≡ true → rest ≡ []) → r .over ≡ true → Chunked p s (input ++ rest) (take (r .written) after)
-  more : {s : State} {input rest : List ℕ} {whole : Bool} {before after : List ℕ} {r : Chunk} {text : List ℕ} → Advanced p s input whole before after r
+  more : {s : State} {input rest : List ℕ} {whole : Bool} {before after : List ℕ} {r : Chunk} {text : List ℕ} → TurnsRan p s input whole before after r
       → (whole ≡ true → rest ≡ []) → r .over ≡ false → Chunked p (r .state) (drop (r .used) input ++ rest) text
       → Chunked p s (input ++ rest) (take (r .written) after ++ text)

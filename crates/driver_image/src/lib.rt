@@ -3,9 +3,10 @@ ghost use mathlib.Core.Path.{_≡_};
 ghost use Prim.Native.Nat.{_/_, _≤_};
 ghost use lib.ListN.{length};
 ghost use Rattle.image.specs.Image.{decode};
+ghost use Rattle.image.specs.Parts.{partsOf};
 ghost use Rattle.words.specs.Words.{firstWords};
 ghost use Rattle.driver_image.specs.Opening.{imageWords};
-use image::Decoded;
+use image::Parts;
 
 // How many words the image has, by the first four bytes of the input, or 0 where they are refused.
 pub fn image_words(head: &[u8]) -> usize
@@ -29,11 +30,13 @@ fn image_space() -> [u32; 16385]
     [0; 16385]
 }
 
-// The tables of an image, or the number of its fault. Bytes behind the last whole word are not looked at.
-pub fn open(bytes: &[u8]) -> Decoded
-    ensures { λ r. ⌜ r ≡ decode (firstWords (length (now (bytes .entry)) / 4) (now (bytes .entry))) ⌝ }
+// What an image says, or the number of its fault; its patterns are written into lent arrays. Bytes behind the last whole word are not looked at.
+pub fn open(bytes: &[u8], lengths: &mut [usize; 32], multipliers: &mut [f64; 5376]) -> Parts
+    ensures { λ r. ⌜ r ≡ partsOf (decode (firstWords (length (now (bytes .entry)) / 4) (now (bytes .entry)))) ⌝ }
+    ensures { λ _. ⌜ now (lengths .exit) ≡ decode (firstWords (length (now (bytes .entry)) / 4) (now (bytes .entry))) .project .lengths ⌝ }
+    ensures { λ _. ⌜ now (multipliers .exit) ≡ decode (firstWords (length (now (bytes .entry)) / 4) (now (bytes .entry))) .project .multipliers ⌝ }
 {
     let mut words = image_space();
     let n = words::words_of(bytes, &mut words);
-    image::decode(&words[..n])
+    image::decode_into(&words[..n], lengths, multipliers)
 }

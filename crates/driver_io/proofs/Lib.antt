@@ -1,2 +1,4 @@
-pub mod Shifting
+-- Laws that belong to no one function.
 pub mod Running
+pub mod Shifting
+pub mod Opened

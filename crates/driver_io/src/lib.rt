@@ -1,12 +1,17 @@
 // The driver between two descriptors: it reads an image and loads, and writes the listing. This crate only moves bytes; what they are is put
 // together by `driver_image` and `driver_chunk`. No contract can say what is read or written: the law `image-accepted` of `driver_printed` says that the
 // chunks' texts, written one after the other, are what document 01 asks for.
-use model::Project;
 ghost use Prim.Native.Nat.{_+_, _-_, _≤_};
 ghost use mathlib.Core.Path.{_≡_};
 ghost use mathlib.Core.List.{_++_};
 ghost use lib.ListN.{length, take, drop};
-ghost use Rattle.driver_io.specs.Held.{Filled};
+ghost use Rattle.driver_chunk.specs.Chunks.{RunOf};
+ghost use Rattle.driver_io.specs.Held.{Filled, Accepted};
+use driver_tables::Tables;
+use driver_tables::lay_out;
+use image::Parts;
+use model::State;
+use state::start_from;
 
 // The input at hand: the bytes of the buffer from used up to have, and whether no more come.
 struct Held {
@@ -81,14 +86,20 @@ fn refill(input: &mut [u8], h: Held, wants: usize, from: i32) -> Held
     }
 }
 
-// The run of a project.
-fn run(p: Project, input: &mut [u8], out: &mut [u8], from: i32, to: i32)
+// The run by the tables of a project, from its state at the start.
+fn run(
+    t: Tables,
+    multipliers: &[f64; 5376],
+    start: State,
+    input: &mut [u8],
+    out: &mut [u8],
+    from: i32,
+    to: i32,
+)
     requires { ⌜ 22 ≤ length (now out) ⌝ }
+    requires { ⌜ RunOf t (now multipliers) start ⌝ }
 {
-    let h = listing::put_header(out, 0);
-    io::write_all(to, &out[..h]);
-    let started = calls::new_with_initial_values(p);
-    let mut state = started.state;
+    let mut state = start;
     let mut held = Held {
         used: 0,
         have: 0,
@@ -100,7 +111,7 @@ fn run(p: Project, input: &mut [u8], out: &mut [u8], from: i32, to: i32)
         held = refill(input, held, wants, from);
         let used = held.used;
         let have = held.have;
-        let c = driver_chunk::advance(p, state, &input[used..have], held.whole, out);
+        let c = driver_chunk::advance(t, multipliers, state, &input[used..have], held.whole, out);
         let n = c.written;
         io::write_all(to, &out[..n]);
         state = c.state;
@@ -108,6 +119,40 @@ fn run(p: Project, input: &mut [u8], out: &mut [u8], from: i32, to: i32)
         wants = c.wants;
         over = c.over;
     }
+}
+
+// The run of what an image says: the header, the tables, laid out once, and the start.
+fn run_parts(
+    parts: Parts,
+    lengths: [usize; 32],
+    multipliers: &[f64; 5376],
+    input: &mut [u8],
+    out: &mut [u8],
+    from: i32,
+    to: i32,
+)
+    requires { ⌜ 22 ≤ length (now out) ⌝ }
+    requires { ⌜ Accepted parts lengths (now multipliers) ⌝ }
+{
+    let h = listing::put_header(out, 0);
+    io::write_all(to, &out[..h]);
+    let options = parts.options;
+    let counts = parts.counts;
+    let nodes = parts.nodes;
+    let links = parts.links;
+    let controls = parts.controls;
+    let t = lay_out(options, counts, lengths, nodes, links, controls);
+    let start = start_from(nodes, counts.nodes, links, counts.links);
+    run(t, multipliers, start, input, out, from, to);
+}
+
+// Room for the patterns of an image.
+fn no_lengths() -> [usize; 32] {
+    [0; 32]
+}
+
+fn no_multipliers() -> [f64; 5376] {
+    [0.0; 5376]
 }
 
 // The image, and then the run.
@@ -127,17 +172,23 @@ fn drive_slices(input: &mut [u8], out: &mut [u8], from: i32, to: i32)
         refuse(1, out, to);
         return;
     }
-    let decoded = driver_image::open(&input[..size]);
-    let fault = decoded.fault;
-    let project = decoded.project;
+    let mut lengths = no_lengths();
+    let mut multipliers = no_multipliers();
+    let parts = driver_image::open(&input[..size], &mut lengths, &mut multipliers);
+    let fault = parts.fault;
     if fault == 0 {
-        run(project, input, out, from, to);
+        run_parts(parts, lengths, &multipliers, input, out, from, to);
         return;
     }
     refuse(fault, out, to);
 }
 
+// Room for the listing's lines, of a chunk at a time.
+pub fn out_buffer() -> [u8; 8192] {
+    [0; 8192]
+}
+
 // The same with buffers of a fixed size, so that nothing is asked of the caller.
-pub fn drive(input: &mut [u8; 65536], out: &mut [u8; 65536], from: i32, to: i32) {
+pub fn drive(input: &mut [u8; 65536], out: &mut [u8; 8192], from: i32, to: i32) {
     drive_slices(input, out, from, to);
 }

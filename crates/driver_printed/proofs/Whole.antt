@@ -114,17 +114,15 @@ module _ (p : Project) where
   chunks-join : {s : State} {bytes text : List ℕ} → Chunked p s bytes text → inOrder p s ≡ true → (had : List Line)
       → textOf (linesFrom p (record { state = s; left = bytes; lines = had; over = false })) ≡ textOf had ++ text
   chunks-join {s} (Chunked.last {input = input} {rest = rest} {r = r} a w z) h had =
-      let b = a .ran h in
-      ap textOf (chunk-lines b h rest had w ∙ over-lines (record { state = r .state; left = drop (r .used) input ++ rest; lines = had ++ b .lines; over = r .over }) z)
-      ∙ text-append had (b .lines)
-      ∙ rw (chunk-text b)
+      ap textOf (chunk-lines a h rest had w ∙ over-lines (record { state = r .state; left = drop (r .used) input ++ rest; lines = had ++ a .lines; over = r .over }) z)
+      ∙ text-append had (a .lines)
+      ∙ rw (chunk-text a)
   chunks-join {s} (Chunked.more {input = input} {rest = rest} {r = r} {text = text} a w z c) h had =
-      let b = a .ran h in
       ap textOf
-      (chunk-lines b h rest had w
-      ∙ ap (λ (o : Bool). linesFrom p (record { state = r .state; left = drop (r .used) input ++ rest; lines = had ++ b .lines; over = o })) z)
-      ∙ chunks-join c (b .ordered) (had ++ b .lines)
-      ∙ rw (text-append had (b .lines), append-assoc, chunk-text b)
+      (chunk-lines a h rest had w
+      ∙ ap (λ (o : Bool). linesFrom p (record { state = r .state; left = drop (r .used) input ++ rest; lines = had ++ a .lines; over = o })) z)
+      ∙ chunks-join c (a .ordered) (had ++ a .lines)
+      ∙ rw (text-append had (a .lines), append-assoc, chunk-text a)
 
 -- ---- the count and the image
 -- what is refused at the first four bytes, or at an image that is cut, prints one line

@@ -21,9 +21,8 @@ use Rattle.calls.specs.Calls.{load, tankLinks, step}
 use Rattle.calls.specs.declared.Called.{Called}
 use Rattle.calls_sound.proofs.Theorem.{tank-links-in-order, load-in-order}
 use Rattle.driver_load.specs.Sizes.{loadWords, loadBytes}
-use Rattle.driver_turn.specs.declared.Turned.{Turned}
 use Rattle.driver_turn.specs.Turns.{Turn, prepared, stepTurn, endTurn, finishedTurn, refusedTurn, loadTurn, inputTurn, turn}
-use Rattle.driver_turn.specs.Turned.{TurnedAs}
+use Rattle.driver_turn.specs.Turned.{Turned, TurnedAs}
 use Rattle.driver_turn.proofs.Inner.{tank-links-inner, step-length-inner, step-state-inner}
 
 -- ---- which turn it is
@@ -79,7 +78,7 @@ module _ {at : ℕ} {before after : List ℕ} {end : ℕ} (room : at + 22 ≤ le
       let v = line-put l e q in
       record { state = refl; taken = refl; last = refl; text = v .made; place = v .place; room = v .room }
 
-  stepped-as : (s : State) (taken : ℕ) (l : Line) → end ≡ text.after before at (lineText l) → after ≡ text.put before at (lineText l)
+  pub stepped-as : (s : State) (taken : ℕ) (l : Line) → end ≡ text.after before at (lineText l) → after ≡ text.put before at (lineText l)
       → TurnedAs (record { state = s; taken = taken; line = l; last = false }) at before after (record { state = s; taken = taken; at = end; last = false })
   stepped-as s taken l e q =
       let v = line-put l e q in
@@ -92,7 +91,7 @@ closed-is p s e {closed} c = tank-links-inner p s e ∙ sym c
 pub closed-in-order : (p : Project) (s : State) → inOrder p s ≡ true → {closed : State} → closed ≡ updateTankLinks p s → inOrder p closed ≡ true
 closed-in-order p s e {closed} c = subst (λ (x : State). inOrder p x ≡ true) (closed-is p s e c) (tank-links-in-order p s e)
 
-step-turn-is : (p : Project) (s : State) (taken : ℕ) → inOrder p s ≡ true → {closed : State} → closed ≡ updateTankLinks p s → {t : Stepped} → t ≡ nextHydraulicTimestep p closed
+pub step-turn-is : (p : Project) (s : State) (taken : ℕ) → inOrder p s ≡ true → {closed : State} → closed ≡ updateTankLinks p s → {t : Stepped} → t ≡ nextHydraulicTimestep p closed
     → stepTurn p s taken ≡ record { state = t .state; taken = taken; line = Line.step (closed .clock .instant) (t .length); last = false }
 unfolding stepTurn
 step-turn-is p s taken e {closed} c {t} d =

@@ -1,143 +1,89 @@
-// One turn of the driver: patterns, controls, a load if any is left, closing and the step, and its line. The functions demand a state in
-// order, and a turn leaves one, and the table of the tanks' links: whoever makes turns judges the one and lays out the other once.
+// Closing and the step of a turn, over the arrays of a run: the links of the tanks, the candidates, the length, and the tanks moved on.
 ghost use mathlib.Core.Path.{_≡_};
-ghost use mathlib.Core.Bool.{true};
-ghost use Prim.Native.Nat.{_+_, _≤_};
-ghost use lib.ListN.{length};
-ghost use Rattle.judge.specs.Judgement.{inOrder};
-ghost use Rattle.tank_links.specs.Groups.{isLaidOut};
-ghost use Rattle.driver_turn.specs.Turns.{prepared, stepTurn, finishedTurn, refusedTurn, inputTurn, turn};
-ghost use Rattle.driver_turn.specs.Turned.{TurnedAs};
-use driver_load::load_from;
-use driver_load::load_words;
-use model::*;
+ghost use Prim.Native.Nat.{_≤_};
+ghost use Rattle.clock.specs.Steps.{clockTime, stepLength};
+ghost use Rattle.number.specs.Constants as constants;
+ghost use Rattle.run_tables.specs.Held.{TanksInside};
+ghost use Rattle.run_candidates.specs.Levels.{LevelsInside};
+ghost use Rattle.run_candidates.specs.Next.{nextTime, nextClock, nextLevel};
+ghost use Rattle.run_tanks.specs.Closing.{GroupsInside, linksClosed, demandsSummed};
+ghost use Rattle.run_tanks.specs.Moving.{tankTimeOf, headsAfter};
+use clock::Times;
+use clock::clock_time;
+use number::constants::MAX;
+use run_candidates::next_clock;
+use run_candidates::next_level;
+use run_candidates::next_time;
+use run_tanks::close_links;
+use run_tanks::move_tanks;
+use run_tanks::sum_demands;
+use run_tanks::tank_time;
 
-// The state after a turn, the bytes that it took, the position after its line, and whether the run ends there.
-pub struct Turned {
-    pub state: State,
-    pub taken: usize,
-    pub at: usize,
-    pub last: bool,
-}
-
-// Patterns, then controls.
-fn prepared(p: Project, s: State) -> State
-    requires { ⌜ inOrder p s ≡ true ⌝ }
-    ensures { λ r. ⌜ r ≡ prepared p s ⌝ }
-{
-    let patterned = state::apply_patterns(p, s);
-    state::apply_controls(p, patterned)
-}
-
-// The end after the last step. A line takes 22 bytes at most.
-fn finished_turn(s: State, out: &mut [u8], at: usize) -> Turned
-    requires { ⌜ at + 22 ≤ length (now out) ⌝ }
-    ensures { λ r. ⌜ TurnedAs (finishedTurn s) at (now (out .entry)) (now (out .exit)) r ⌝ }
-{
-    let end = listing::put_steps_line(out, at, s.clock.count);
-    Turned {
-        state: s,
-        taken: 0,
-        at: end,
-        last: true,
-    }
-}
-
-// The end at a fault.
-fn refused_turn(s: State, number: u32, out: &mut [u8], at: usize) -> Turned
-    requires { ⌜ at + 22 ≤ length (now out) ⌝ }
-    ensures { λ r. ⌜ TurnedAs (refusedTurn s number) at (now (out .entry)) (now (out .exit)) r ⌝ }
-{
-    let end = listing::put_refused_line(out, at, number);
-    Turned {
-        state: s,
-        taken: 0,
-        at: end,
-        last: true,
-    }
-}
-
-// Closing and the step, with its line.
-fn step_turn<'a>(
-    p: Project,
-    s: State,
+// Answers the length. It is not 0 before the duration, so that the tanks always move.
+pub fn step<'a>(
+    times: Times,
+    time: u32,
+    nodes: &'a [u32; 256],
+    numbers: &'a [f64; 1280],
+    overflows: &'a [u32; 256],
+    n: usize,
     begins: &'a [u32; 257],
     middles: &'a [u32; 256],
     links: &'a [u32; 768],
-    taken: usize,
-    out: &mut [u8],
-    at: usize,
-) -> Turned
-    requires { ⌜ inOrder p s ≡ true ⌝ }
-    requires { ⌜ isLaidOut p (now begins) (now middles) (now links) ≡ true ⌝ }
-    requires { ⌜ at + 22 ≤ length (now out) ⌝ }
-    ensures { λ r. ⌜ TurnedAs (stepTurn p s taken) at (now (out .entry)) (now (out .exit)) r ⌝ }
+    level_tanks: &'a [u32; 64],
+    targets: &'a [f64; 64],
+    levels: usize,
+    seconds: &'a [u32; 64],
+    timed: usize,
+    day_seconds: &'a [u32; 64],
+    clocked: usize,
+    flows: &'a [f64; 384],
+    statuses: &mut [u32; 384],
+    demands: &mut [f64; 256],
+    heads: &mut [f64; 256],
+) -> u32
+    requires { ⌜ TanksInside (now nodes) n ⌝ }
+    requires { ⌜ GroupsInside (now begins) (now middles) (now links) n ⌝ }
+    requires { ⌜ LevelsInside (now «level_tanks») levels (now nodes) ⌝ }
+    requires { ⌜ (levels ≤ 64) × (timed ≤ 64) × (clocked ≤ 64) ⌝ }
+    ensures { λ _. ⌜ now (statuses .exit) ≡ linksClosed (now (nodes .entry)) (now (numbers .entry)) (now (overflows .entry)) (now (begins .entry)) (now (middles .entry)) (now (links .entry)) n (now (heads .entry)) (now (flows .entry)) (now (statuses .entry)) ⌝ }
+    ensures { λ _. ⌜ now (demands .exit) ≡ demandsSummed (now (nodes .entry)) (now (begins .entry)) (now (middles .entry)) (now (links .entry)) n (now (flows .entry)) (now (demands .entry)) ⌝ }
+    ensures { λ r. ⌜ r ≡ stepLength times (tankTimeOf (now (nodes .entry)) (now (numbers .entry)) (now (overflows .entry)) n (now (heads .entry)) (now (demands .exit))) (nextClock (now («day_seconds» .entry)) clocked (clockTime (times .«start_clock») time) (nextTime (now (seconds .entry)) timed time (nextLevel (now («level_tanks» .entry)) (now (targets .entry)) levels (now (nodes .entry)) (now (numbers .entry)) (now (overflows .entry)) (now (heads .entry)) (now (demands .exit)) constants.MAX))) time ⌝ }
+    ensures { λ r. ⌜ now (heads .exit) ≡ headsAfter (now (nodes .entry)) (now (numbers .entry)) (now (overflows .entry)) n (now (demands .exit)) r (now (heads .entry)) ⌝ }
 {
-    let closed = solver::update_tank_links_by(p, s, begins, middles, links);
-    let t = simulation::next_hydraulic_timestep(p, closed);
-    let end = listing::put_step_line(out, at, closed.clock.instant, t.length);
-    let state = t.state;
-    Turned {
-        state: state,
-        taken: taken,
-        at: end,
-        last: false,
-    }
-}
-
-// A load if any is left, and the step.
-fn input_turn<'a>(
-    p: Project,
-    s: State,
-    begins: &'a [u32; 257],
-    middles: &'a [u32; 256],
-    links: &'a [u32; 768],
-    bytes: &[u8],
-    out: &mut [u8],
-    at: usize,
-) -> Turned
-    requires { ⌜ inOrder p s ≡ true ⌝ }
-    requires { ⌜ isLaidOut p (now begins) (now middles) (now links) ≡ true ⌝ }
-    requires { ⌜ at + 22 ≤ length (now out) ⌝ }
-    ensures { λ r. ⌜ TurnedAs (inputTurn p s (now (bytes .entry))) at (now (out .entry)) (now (out .exit)) r ⌝ }
-{
-    if bytes.len() == 0 {
-        return step_turn(p, s, begins, middles, links, 0, out, at);
-    }
-    let size = load_words(p) * 4;
-    if bytes.len() < size {
-        return refused_turn(s, 7, out, at);
-    }
-    let answer = load_from(p, s, bytes);
-    let number = answer.number;
-    let state = answer.state;
-    if number == 0 {
-        return step_turn(p, state, begins, middles, links, size, out, at);
-    }
-    refused_turn(state, number, out, at)
-}
-
-// One turn.
-pub fn turn<'a>(
-    p: Project,
-    s: State,
-    begins: &'a [u32; 257],
-    middles: &'a [u32; 256],
-    links: &'a [u32; 768],
-    bytes: &[u8],
-    out: &mut [u8],
-    at: usize,
-) -> Turned
-    requires { ⌜ inOrder p s ≡ true ⌝ }
-    requires { ⌜ isLaidOut p (now begins) (now middles) (now links) ≡ true ⌝ }
-    requires { ⌜ at + 22 ≤ length (now out) ⌝ }
-    ensures { λ r. ⌜ TurnedAs (turn p s (now (bytes .entry))) at (now (out .entry)) (now (out .exit)) r ⌝ }
-{
-    let duration = p.options.duration;
-    let instant = s.clock.instant;
-    if duration <= instant {
-        return finished_turn(s, out, at);
-    }
-    let ready = prepared(p, s);
-    input_turn(p, ready, begins, middles, links, bytes, out, at)
+    close_links(
+        nodes,
+        numbers,
+        overflows,
+        begins,
+        middles,
+        links,
+        n,
+        heads,
+        flows,
+        statuses,
+    );
+    sum_demands(nodes, begins, middles, links, n, flows, demands);
+    let tank = tank_time(nodes, numbers, overflows, n, heads, demands);
+    let level = next_level(
+        level_tanks,
+        targets,
+        levels,
+        nodes,
+        numbers,
+        overflows,
+        heads,
+        demands,
+        MAX,
+    );
+    let hour = clock_time(times.start_clock, time);
+    let control = next_clock(
+        day_seconds,
+        clocked,
+        hour,
+        next_time(seconds, timed, time, level),
+    );
+    let length = times.step_length(tank, control, time);
+    move_tanks(nodes, numbers, overflows, n, demands, length as u64, heads);
+    length
 }

@@ -1,7 +1,12 @@
 // Number 10: what every later call asks first of the tables and the state that it is handed.
 ghost use mathlib.Core.Path.{_≡_};
+ghost use mathlib.Core.Bool.{_&&_};
+ghost use Prim.Native.Nat.{_≤_};
+ghost use lib.ListN.{getD};
+ghost use Rattle.model.specs.Blank.{blankNodeState, blankLinkState};
+ghost use Rattle.model.specs.Loops.{allBelow};
 ghost use Rattle.tables.specs.Tables.{Few};
-ghost use Rattle.judge.specs.Judgement.{nodeStateOk, linkStateOk, stateClockOk, nodeStatesOk, linkStatesOk, stateOk, inOrder};
+ghost use Rattle.judge.specs.Judgement.{nodeStateOk, linkStateOk, stateClockOk, nodeStateOkAt, linkStateOkAt, inOrder};
 use clock::Clock;
 use model::*;
 use number::within;
@@ -28,14 +33,13 @@ fn state_clock_ok(duration: u32, c: Clock) -> bool
     (c.instant <= duration) & (c.count <= c.instant)
 }
 
-fn node_states_ok(p: Project, s: State) -> bool
-    requires { ⌜ Few (p .counts) ⌝ }
-    ensures { λ r. ⌜ r ≡ nodeStatesOk p s ⌝ }
+fn node_states_ok(nodes: [NodeState; 256], n: usize) -> bool
+    requires { ⌜ n ≤ 256 ⌝ }
+    ensures { λ r. ⌜ r ≡ allBelow n (λ i. nodeStateOk (getD nodes i blankNodeState)) ⌝ }
 {
-    let n = p.counts.nodes;
     let mut i = 0;
     while i < n {
-        if !node_state_ok(s.nodes[i]) {
+        if !node_state_ok(nodes[i]) {
             return false;
         }
         i += 1;
@@ -43,19 +47,30 @@ fn node_states_ok(p: Project, s: State) -> bool
     true
 }
 
-fn link_states_ok(p: Project, s: State) -> bool
-    requires { ⌜ Few (p .counts) ⌝ }
-    ensures { λ r. ⌜ r ≡ linkStatesOk p s ⌝ }
+fn link_states_ok(links: [LinkState; 384], n: usize) -> bool
+    requires { ⌜ n ≤ 384 ⌝ }
+    ensures { λ r. ⌜ r ≡ allBelow n (λ i. linkStateOk (getD links i blankLinkState)) ⌝ }
 {
-    let n = p.counts.links;
     let mut i = 0;
     while i < n {
-        if !link_state_ok(s.links[i]) {
+        if !link_state_ok(links[i]) {
             return false;
         }
         i += 1;
     }
     true
+}
+
+// The state's part of number 10, behind the tables'.
+pub fn state_ok(duration: u32, counts: Counts, s: State) -> bool
+    requires { ⌜ Few counts ⌝ }
+    ensures { λ r. ⌜ r ≡ stateClockOk duration (s .clock) && allBelow (counts .nodes) (nodeStateOkAt s) && allBelow (counts .links) (linkStateOkAt s) ⌝ }
+{
+    let nodes = s.nodes;
+    let links = s.links;
+    state_clock_ok(duration, s.clock)
+        & node_states_ok(nodes, counts.nodes)
+        & link_states_ok(links, counts.links)
 }
 
 // Whether tables and state break nothing that number 10 asks.
@@ -65,5 +80,5 @@ pub fn in_order(p: Project, s: State) -> bool
     if !tables_ok(p) {
         return false;
     }
-    state_clock_ok(p.options.duration, s.clock) & node_states_ok(p, s) & link_states_ok(p, s)
+    state_ok(p.options.duration, p.counts, s)
 }

@@ -1,3 +1,6 @@
 -- Laws that belong to no one function.
-pub mod Tankwise
 pub mod Values
+pub mod Loaded
+pub mod Inflows
+pub mod ByTable
+pub mod InForce

@@ -1,2 +1,2 @@
 pub mod Loads
-pub mod Passes
+pub mod ByTable

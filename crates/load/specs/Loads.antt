@@ -1,26 +1,21 @@
 -- Document 01: "A load (kind 15) has every link's flow, then every junction's head, in order, each within ±10^12."
-use Prim.Native.Nat.{ℕ, zero, suc, _+_, _*_, _^_}
-use mathlib.Core.Bool.{Bool, _&&_, cond}
+use Prim.Native.Nat.{ℕ, zero, suc, _+_}
+use mathlib.Core.Bool.{cond}
 use mathlib.Core.List.{List}
 use lib.Dec.{eqb}
 use lib.Ieee.{Float}
-use lib.ListN.{length}
 use Rattle.number.specs.Constants.{decimal}
 use Rattle.number.specs.Operators.{_⊕_, _⊖_}
-use Rattle.number.specs.Order.{within}
 use Rattle.model.specs.Blank.{nodeAt, linkAt, nodeStateAt, linkStateAt, withNode, withLink}
-use Rattle.model.specs.Loops.{through, allBelow}
+use Rattle.model.specs.Loops.{through}
 use Rattle.model.specs.Nodes.{isTank, isJunction}
 use Rattle.model.specs.declared.node.Node.{Node}
 use Rattle.model.specs.declared.project.Project.{Project}
 use Rattle.model.specs.declared.state.NodeState.{NodeState}
 use Rattle.model.specs.declared.state.State.{State}
-use Rattle.image_entry.specs.Words.{word, number}
 use Rattle.state_node.specs.Inflow.{withDemand}
-
--- number k of a load, behind the header
-abbrev pub valueAt : List ℕ → ℕ → Float
-valueAt words k = number words (1 + 2 * k)
+pub use Rattle.run_loads.specs.Values.{valueAt, valueOk}
+unfoldable pub use Rattle.run_loads.specs.Values.{shapeOk, valuesOk}
 
 -- how many of a load's numbers stand before the head of node i: the links' flows and the heads of the junctions before it
 unfoldable pub valuesBefore : Project → ℕ → ℕ
@@ -29,17 +24,6 @@ valuesBefore p (suc i) = valuesBefore p i + cond (isJunction (nodeAt p i)) 1 0
 
 unfoldable pub valueCount : Project → ℕ
 valueCount p = valuesBefore p (p .counts .nodes)
-
--- 7: "kind, header bits or size wrong, cut, or words left over"
-unfoldable pub shapeOk : ℕ → List ℕ → Bool
-shapeOk count words = eqb (length words) (1 + 2 * count) && eqb (word words 0) (15 * 2 ^ 28 + 2 * count)
-
--- 8: "value not finite or beyond 10^12"
-abbrev pub valueOk : List ℕ → ℕ → Bool
-valueOk words k = within (decimal 1000000000000 0) (valueAt words k)
-
-unfoldable pub valuesOk : ℕ → List ℕ → Bool
-valuesOk count words = allBelow count (valueOk words)
 
 -- the number of a load's fault, and 0 where it has none
 unfoldable pub loadFault : Project → List ℕ → ℕ

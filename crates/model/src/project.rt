@@ -1,6 +1,6 @@
 // The tables of a project.
 ghost use mathlib.Core.Path.{_≡_};
-ghost use Rattle.model.specs.Blank.{blankNode, blankLink, blankControl, blankPremise, emptyProject};
+ghost use Rattle.model.specs.Blank.{blankNode, blankLink, blankControl, blankPremise, blankOptions, noCounts, emptyProject};
 use crate::control::Control;
 use crate::control::ControlCondition;
 use crate::control::SettingAction;
@@ -40,7 +40,7 @@ pub struct Project {
 }
 
 // The fillers of the tables.
-fn blank_node() -> Node
+pub fn blank_node() -> Node
     ensures { λ r. ⌜ r ≡ blankNode ⌝ }
 {
     let reservoir = Reservoir {
@@ -52,7 +52,7 @@ fn blank_node() -> Node
     }
 }
 
-fn blank_link() -> Link
+pub fn blank_link() -> Link
     ensures { λ r. ⌜ r ≡ blankLink ⌝ }
 {
     Link {
@@ -65,7 +65,7 @@ fn blank_link() -> Link
     }
 }
 
-fn blank_control() -> Control
+pub fn blank_control() -> Control
     ensures { λ r. ⌜ r ≡ blankControl ⌝ }
 {
     Control {
@@ -79,7 +79,7 @@ fn blank_control() -> Control
     }
 }
 
-fn blank_premise() -> Premise
+pub fn blank_premise() -> Premise
     ensures { λ r. ⌜ r ≡ blankPremise ⌝ }
 {
     Premise {
@@ -90,33 +90,43 @@ fn blank_premise() -> Premise
     }
 }
 
+pub fn blank_options() -> Options
+    ensures { λ r. ⌜ r ≡ blankOptions ⌝ }
+{
+    Options {
+        duration: 0,
+        hydraulic: 0,
+        report: 0,
+        pattern: 0,
+        pattern_start: 0,
+        start_clock: 0,
+        skip: false,
+        pda: false,
+        default_pattern: PatternIndex::NoPattern,
+        demand_multiplier: 0.0 / 0.0,
+    }
+}
+
+pub fn no_counts() -> Counts
+    ensures { λ r. ⌜ r ≡ noCounts ⌝ }
+{
+    Counts {
+        patterns: 0,
+        nodes: 0,
+        links: 0,
+        controls: 0,
+        premises: 0,
+    }
+}
+
 impl Project {
     // Tables with nothing in them.
     pub fn empty() -> Project
         ensures { λ r. ⌜ r ≡ emptyProject ⌝ }
     {
-        let options = Options {
-            duration: 0,
-            hydraulic: 0,
-            report: 0,
-            pattern: 0,
-            pattern_start: 0,
-            start_clock: 0,
-            skip: false,
-            pda: false,
-            default_pattern: PatternIndex::NoPattern,
-            demand_multiplier: 0.0 / 0.0,
-        };
-        let counts = Counts {
-            patterns: 0,
-            nodes: 0,
-            links: 0,
-            controls: 0,
-            premises: 0,
-        };
         Project {
-            options: options,
-            counts: counts,
+            options: blank_options(),
+            counts: no_counts(),
             lengths: [0; 32],
             multipliers: [0.0 / 0.0; 5376],
             nodes: [blank_node(); 256],

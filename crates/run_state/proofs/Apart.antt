@@ -10,7 +10,7 @@ use Rattle.model.specs.Blank.{blankNodeState, blankLinkState}
 use Rattle.model.specs.declared.state.LinkState.{LinkState}
 use Rattle.model.specs.declared.state.NodeState.{NodeState}
 use Rattle.model.specs.declared.state.State.{State}
-use Rattle.run_state.specs.Lists.{Lists, demandFlowOf, demandOf, flowOf, headOf, listsOf, settingOf, statusOf}
+use Rattle.run_state.specs.Lists.{Lists, Links, NodesHold, LinksHold, demandFlowOf, demandFlowsOf, demandOf, demandsOf, flowOf, headOf, headsOf, linksOf, listsOf, settingOf, statusOf}
 
 -- one entry of what two lists are made into
 entry : {A B : Type 0} (h : A → B) (d : A) (xs ys : List A) → map h xs ≡ map h ys → (k : ℕ) → h (getD xs k d) ≡ h (getD ys k d)
@@ -57,3 +57,26 @@ same-state s t e =
     (nodes (s .nodes) (t .nodes) (ap (λ (x : Lists). x .heads) e) (ap (λ (x : Lists). x .demands) e) (ap (λ (x : Lists). x .demand-flows) e))
     (links (s .links) (t .links) (ap (λ (x : Lists). x .links .flows) e) (ap (λ (x : Lists). x .links .statuses) e) (ap (λ (x : Lists). x .links .settings) e))
     (ap (λ (x : Lists). x .clock) e)
+
+-- a state whose parts hold the arrays
+pub packed : (s : State) {heads demands flows : List Float} {ls : Links}
+    → NodesHold (s .nodes) heads demands flows → LinksHold (s .links) (ls .flows) (ls .statuses) (ls .settings)
+    → listsOf s ≡ record { heads = heads; demands = demands; demand-flows = flows; links = ls; clock = s .clock }
+packed s {heads} {demands} {flows} {ls} n l = made (n .head) (n .demand) (n .demand-flow) (l .flow) (l .status) (l .setting)
+  where
+    made : {h h' d d' f f' a a' c c' : List Float} {b b' : List ℕ} → h ≡ h' → d ≡ d' → f ≡ f' → a ≡ a' → b ≡ b' → c ≡ c'
+        → _≡_ {A = Lists}
+        (record { heads = h; demands = d; demand-flows = f; links = record { flows = a; statuses = b; settings = c }; clock = s .clock })
+        (record { heads = h'; demands = d'; demand-flows = f'; links = record { flows = a'; statuses = b'; settings = c' }; clock = s .clock })
+    made a b c d e f = rw (a, b, c, d, e, f)
+
+-- the lists of a state t that differs from s in its links alone
+pub links-changed : (s t : State) {ls : Links} → ls ≡ linksOf t → t .nodes ≡ s .nodes → t .clock ≡ s .clock
+    → record { heads = headsOf s; demands = demandsOf s; demand-flows = demandFlowsOf s; links = ls; clock = s .clock } ≡ listsOf t
+links-changed s t {ls} l n c = made l (sym n) (sym c)
+  where
+    made : {a a' : Links} {x x' : List NodeState} {k k' : Clock} → a ≡ a' → x ≡ x' → k ≡ k'
+        → _≡_ {A = Lists}
+        (record { heads = map headOf x; demands = map demandOf x; demand-flows = map demandFlowOf x; links = a; clock = k })
+        (record { heads = map headOf x'; demands = map demandOf x'; demand-flows = map demandFlowOf x'; links = a'; clock = k' })
+    made a b c = rw (a, b, c)

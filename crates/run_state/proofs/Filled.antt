@@ -6,9 +6,6 @@ use mathlib.Core.Logic.{⊎-elim}
 use native.Mathlib.Nat.{eq-or-lt-of-le}
 use native.Mathlib.Omega.{arith}
 use lib.ListN.{getD, set, length, length-map, length-set, List·getD-map}
-use borrow.Author.Tests.{lt-ltb}
-use Rattle.model.specs.Loops.{through}
-use Rattle.model.proofs.Pointwise.{putAt, kept-length, each-at}
 use lib.Seq.{getD-set-same, getD-set-other, ext-getD}
 
 -- the first i of n entries are what g gives
@@ -36,19 +33,14 @@ module _ {A : Type 0} {d : A} {n : ℕ} {g : ℕ → A} where
   full {i} {out} {xs} f l long same =
       ext-getD d out xs (f .long ∙ sym long) (λ k h. f .each k (omega (arith, f .long)) ∙ sym (same k (omega (arith, f .long))))
 
+  -- what a function makes of the entries
+  pub full-map : {B : Type 0} (h : A → B) {i : ℕ} {out : List A} {ys : List B} → Filled d n g i out → n ≤ i → length ys ≡ n
+      → ((k : ℕ) → k < n → getD ys k (h d) ≡ h (g k)) → map h out ≡ ys
+  full-map h {i} {out} {ys} f l long same =
+      ext-getD (h d) (map h out) ys (length-map out h ∙ f .long ∙ sym long)
+      (λ k m. List·getD-map h out k d ∙ ap h (f .each k (omega (arith, length-map out h, f .long))) ∙ sym (same k (omega (arith, length-map out h, f .long))))
+
 -- a projection of a list, entry by entry
 pub projected : {A B : Type 0} (h : A → B) (d : A) {n i : ℕ} {out : List B} (xs : List A)
     → Filled (h d) n (λ k. h (getD xs k d)) i out → n ≤ i → length xs ≡ n → out ≡ map h xs
 projected h d xs f l long = full f l (length-map xs h ∙ long) (λ k m. List·getD-map h xs k d)
-
--- a loop that changes each entry in turn: what a function makes of the entries after it
-pub put-all : {A B : Type 0} (h : A → B) (d : A) (n : ℕ) (g : ℕ → A → A) (xs : List A) {out : List A} (ys : List B)
-    → out ≡ through n (λ i. putAt d i (g i)) xs → length xs ≡ n → length ys ≡ n
-    → ((k : ℕ) → k < n → getD ys k (h d) ≡ h (g k (getD xs k d))) → map h out ≡ ys
-put-all h d n g xs {out} ys e long wide same =
-    ext-getD (h d) (map h out) ys (length-map out h ∙ ap length e ∙ many ∙ long ∙ sym wide)
-    (λ k l. let m : k < n = omega (arith, length-map out h, ap length e, many, long) in
-    List·getD-map h out k d ∙ ap (λ (zs : List _). h (getD zs k d)) e ∙ ap h (each-at d n g xs (omega arith) k ∙ rw (lt-ltb k n m)) ∙ sym (same k m))
-  where
-    many : length (through n (λ i. putAt d i (g i)) xs) ≡ length xs
-    many = kept-length d n (λ i. putAt d i (g i)) (λ k zs. length-set zs k _) xs

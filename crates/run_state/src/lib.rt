@@ -50,6 +50,19 @@ pub fn demands_of(nodes: [NodeState; 256]) -> [f64; 256]
     out
 }
 
+pub fn demand_flows_of(nodes: [NodeState; 256]) -> [f64; 256]
+    ensures { λ r. ⌜ r ≡ map demandFlowOf nodes ⌝ }
+{
+    let mut out = numbers();
+    let mut i = 0;
+    while i < 256 {
+        let x = nodes[i];
+        out[i] = x.demand_flow;
+        i += 1;
+    }
+    out
+}
+
 // Of the links.
 pub fn flows_of(links: [LinkState; 384]) -> [f64; 384]
     ensures { λ r. ⌜ r ≡ map flowOf links ⌝ }
@@ -77,36 +90,50 @@ pub fn statuses_of(links: [LinkState; 384]) -> [u32; 384]
     out
 }
 
-// The nodes with other demands. The array is taken by value, which tells how long it is: nothing is asked of a caller.
-pub fn with_demands(nodes: [NodeState; 256], demands: [f64; 256]) -> [NodeState; 256]
-    ensures { λ r. ⌜ NodesHold r (map headOf nodes) demands (map demandFlowOf nodes) ⌝ }
+pub fn settings_of(links: [LinkState; 384]) -> [f64; 384]
+    ensures { λ r. ⌜ r ≡ map settingOf links ⌝ }
 {
-    let mut out = nodes;
+    let mut out = link_numbers();
+    let mut i = 0;
+    while i < 384 {
+        let x = links[i];
+        out[i] = x.setting;
+        i += 1;
+    }
+    out
+}
+
+// Back. The arrays are taken by value, which tells how long they are: nothing is asked of a caller.
+pub fn nodes_from(
+    heads: [f64; 256],
+    demands: [f64; 256],
+    demand_flows: [f64; 256],
+) -> [NodeState; 256]
+    ensures { λ r. ⌜ NodesHold r heads demands «demand_flows» ⌝ }
+{
+    let mut out = State::blank().nodes;
     let mut i = 0;
     while i < 256 {
-        let x = out[i];
         out[i] = NodeState {
-            head: x.head,
+            head: heads[i],
             demand: demands[i],
-            demand_flow: x.demand_flow,
+            demand_flow: demand_flows[i],
         };
         i += 1;
     }
     out
 }
 
-// The links with other statuses.
-pub fn with_statuses(links: [LinkState; 384], statuses: [u32; 384]) -> [LinkState; 384]
-    ensures { λ r. ⌜ LinksHold r (map flowOf links) statuses (map settingOf links) ⌝ }
+pub fn links_from(flows: [f64; 384], statuses: [u32; 384], settings: [f64; 384]) -> [LinkState; 384]
+    ensures { λ r. ⌜ LinksHold r flows statuses settings ⌝ }
 {
-    let mut out = links;
+    let mut out = State::blank().links;
     let mut i = 0;
     while i < 384 {
-        let x = out[i];
         out[i] = LinkState {
-            flow: x.flow,
+            flow: flows[i],
             status: statuses[i],
-            setting: x.setting,
+            setting: settings[i],
         };
         i += 1;
     }

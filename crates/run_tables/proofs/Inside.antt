@@ -21,6 +21,6 @@ distinct {test} {n} h k l j m q =
     omega (arith, a, b, c, q)
 
 -- of the table of the tanks
-pub laid-pushed : {table : List Node} {among : ℕ} {nodes : List ℕ} {numbers : List Float} {overflows : List Bool} {n : ℕ}
+pub laid-pushed : {table : List Node} {among : ℕ} {nodes : List ℕ} {numbers : List Float} {overflows : List ℕ} {n : ℕ}
     → TanksLaid table among nodes numbers overflows n → Pushed (tankIn table) among nodes n
 laid-pushed {table} {among} laid = record { many = laid .count; few = omega (arith, laid .count, chosen-few (tankIn table) among); each = laid .node }

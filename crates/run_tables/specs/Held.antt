@@ -33,7 +33,7 @@ abbrev pub Distinct : List ℕ → ℕ → Type 0
 Distinct nodes n = (k : ℕ) → k < n → (j : ℕ) → j < k → getD nodes j 0 ≡ getD nodes k 0 → ⊥
 
 -- the table of the tanks has those of a table of nodes, in order
-pub record TanksLaid (table : List Node) (among : ℕ) (nodes : List ℕ) (numbers : List Float) (overflows : List Bool) (n : ℕ) : Type 0 where
+pub record TanksLaid (table : List Node) (among : ℕ) (nodes : List ℕ) (numbers : List Float) (overflows : List ℕ) (n : ℕ) : Type 0 where
   pub count : n ≡ length (tankNodesIn table among)
   pub node : (k : ℕ) → k < n → getD nodes k 0 ≡ getD (tankNodesIn table among) k 0
   pub tank : (k : ℕ) → k < n → getD table (getD nodes k 0) blankNode .kind ≡ Tank (tankAt numbers overflows k)

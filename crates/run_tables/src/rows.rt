@@ -5,8 +5,8 @@ ghost use Rattle.run_tables.specs.Rows.{tankAt};
 use tank::Feet;
 use tank::Tank;
 
-// Tank k: five numbers from 5 * k on.
-pub fn tank_at<'a>(numbers: &'a [f64; 1280], overflows: &'a [bool; 256], k: usize) -> Tank
+// Tank k: five numbers from 5 * k on, and a word that is not 0 where it may overflow.
+pub fn tank_at<'a>(numbers: &'a [f64; 1280], overflows: &'a [u32; 256], k: usize) -> Tank
     requires { ⌜ k < 256 ⌝ }
     ensures { λ r. ⌜ r ≡ tankAt (now (numbers .entry)) (now (overflows .entry)) k ⌝ }
 {
@@ -16,6 +16,6 @@ pub fn tank_at<'a>(numbers: &'a [f64; 1280], overflows: &'a [bool; 256], k: usiz
         min_level: Feet(numbers[5 * k + 2]),
         max_level: Feet(numbers[5 * k + 3]),
         diameter: Feet(numbers[5 * k + 4]),
-        overflow: overflows[k],
+        overflow: overflows[k] != 0,
     }
 }

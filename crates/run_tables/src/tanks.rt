@@ -16,18 +16,19 @@ use tank::Tank;
 // The nodes that are tanks, in order; what stands past the count is free.
 pub struct TankNodes {
     pub count: usize,
-    pub nodes: [usize; 256],
+    pub nodes: [u32; 256],
 }
 
-// Tank k stands at node nodes[k]; its numbers are the five from 5 * k on: elevation, initial, least and greatest level, diameter.
+// Tank k stands at node nodes[k]; its numbers are the five from 5 * k on: elevation, initial, least and greatest level, diameter; overflows[k] is 1
+// where it may overflow, else 0.
 pub struct TankTable {
     pub count: usize,
-    pub nodes: [usize; 256],
+    pub nodes: [u32; 256],
     pub numbers: [f64; 1280],
-    pub overflows: [bool; 256],
+    pub overflows: [u32; 256],
 }
 
-fn no_nodes() -> [usize; 256]
+fn no_words() -> [u32; 256]
     ensures { λ r. ⌜ 256 ≡ length r ⌝ }
 {
     [0; 256]
@@ -39,10 +40,14 @@ fn no_numbers() -> [f64; 1280]
     [0.0; 1280]
 }
 
-fn no_overflows() -> [bool; 256]
-    ensures { λ r. ⌜ 256 ≡ length r ⌝ }
+// 1 for true.
+fn flag(x: bool) -> u32
+    ensures { λ r. ⌜ r ≡ cond x 1 0 ⌝ }
 {
-    [false; 256]
+    if x {
+        return 1;
+    }
+    0
 }
 
 // A count with one more for a tank.
@@ -61,11 +66,11 @@ pub fn tank_nodes(table: [Node; 256], n: usize) -> TankNodes
     requires { ⌜ n ≤ 256 ⌝ }
     ensures { λ r. ⌜ Pushed (tankIn table) n (r .nodes) (r .count) ⌝ }
 {
-    let mut nodes = no_nodes();
+    let mut nodes = no_words();
     let mut count = 0;
     let mut i = 0;
     while i < n {
-        nodes[count] = i;
+        nodes[count] = i as u32;
         count = with_tank(count, table[i]);
         i += 1;
     }
@@ -120,13 +125,13 @@ pub fn tank_table(table: [Node; 256], n: usize) -> TankTable
     let count = t.count;
     let nodes = t.nodes;
     let mut numbers = no_numbers();
-    let mut overflows = no_overflows();
+    let mut overflows = no_words();
     let mut k = 0;
     while k < count {
-        let j = nodes[k];
+        let j = nodes[k] as usize;
         let x = tank_of(table[j]);
         put_tank(&mut numbers, k, x);
-        overflows[k] = x.overflow;
+        overflows[k] = flag(x.overflow);
         k += 1;
     }
     TankTable {

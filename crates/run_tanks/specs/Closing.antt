@@ -41,7 +41,7 @@ added links from n flows sum = through n (λ i x. x ⊕ getD flows (getD links (
 unfoldable pub taken : List ℕ → ℕ → ℕ → List Float → Float → Float
 taken links from n flows sum = through n (λ i x. x ⊖ getD flows (getD links (from + i) 0) nan) sum
 
-abbrev pub groupClosed : List ℕ → List Float → List Bool → List ℕ → List ℕ → List ℕ → List Float → List Float → ℕ → List ℕ → List ℕ
+abbrev pub groupClosed : List ℕ → List Float → List ℕ → List ℕ → List ℕ → List ℕ → List Float → List Float → ℕ → List ℕ → List ℕ
 groupClosed nodes numbers overflows begins middles links heads flows k statuses =
     let t = tankAt numbers overflows k in
     let head = getD heads (getD nodes k 0) nan in
@@ -49,7 +49,7 @@ groupClosed nodes numbers overflows begins middles links heads flows k statuses 
     partClosed links middle (getD begins (k + 1) 0 - middle) flows (emptyClosed t head) (fillClosed t head)
     (partClosed links (getD begins k 0) (middle - getD begins k 0) flows (fillClosed t head) (emptyClosed t head) statuses)
 
-unfoldable pub linksClosed : List ℕ → List Float → List Bool → List ℕ → List ℕ → List ℕ → ℕ → List Float → List Float → List ℕ → List ℕ
+unfoldable pub linksClosed : List ℕ → List Float → List ℕ → List ℕ → List ℕ → List ℕ → ℕ → List Float → List Float → List ℕ → List ℕ
 linksClosed nodes numbers overflows begins middles links n heads flows statuses =
     through n (groupClosed nodes numbers overflows begins middles links heads flows) statuses
 

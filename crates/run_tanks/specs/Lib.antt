@@ -1,1 +1,3 @@
 pub mod Closing
+pub mod Emptying
+pub mod Moving

@@ -1,7 +1,7 @@
 -- Document 01, module 9: `calculate_time_step` and `next_hydraulic_timestep` on a project's tables and a state.
-use Prim.Native.Nat.{ℕ, zero, suc, min}
+use Prim.Native.Nat.{ℕ, min}
 use mathlib.Core.Bool.{Bool, cond, not, _&&_}
-use mathlib.Core.List.{List, [], _∷_, _++_}
+use mathlib.Core.List.{List}
 use lib.Dec.{eqb}
 use Rattle.number.specs.Constants.{MAX}
 use Rattle.clock.specs.Steps.{advanced}
@@ -14,6 +14,7 @@ use Rattle.model.specs.declared.project.Project.{Project}
 use Rattle.model.specs.declared.state.State.{State}
 use Rattle.control.specs.Controls.{levelTime}
 pub use Rattle.control.specs.Controls.{Level, triggerOf}
+unfoldable pub use Rattle.run_candidates.specs.Triggers.{listed}
 use Rattle.state.specs.Tanks.{updateTanks}
 use Rattle.state_node.specs.Tanks.{tankCandidate}
 use Rattle.simulation.specs.declared.step.Stepped.{Stepped}
@@ -46,11 +47,6 @@ timesOf p =
     }
 
 -- ---- the controls
--- f at 0, at 1, .. and at n - 1
-unfoldable pub listed : {A : Type 0} → ℕ → (ℕ → A) → List A
-listed zero f = []
-listed (suc n) f = listed n f ++ (f n ∷ [])
-
 abbrev pub triggerAt : Project → ℕ → Trigger Level
 triggerAt p i = triggerOf (controlAt p i .condition)
 

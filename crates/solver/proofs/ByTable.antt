@@ -66,7 +66,7 @@ module _ {p : Project} (fit : TablesFit p) where
       last : getD begins (k + 1) 0 ≡ begin p (suc k)
       last = let z : k + 1 ≡ suc k = omega arith in ap (λ (m : ℕ). getD begins m 0) z ∙ there .first (suc k) h
 
-  module _ {nodes : List ℕ} {numbers : List Float} {overflows : List Bool} {n : ℕ} (laid : TanksLaid (p .nodes) (p .counts .nodes) nodes numbers overflows n) where
+  module _ {nodes : List ℕ} {numbers : List Float} {overflows : List ℕ} {n : ℕ} (laid : TanksLaid (p .nodes) (p .counts .nodes) nodes numbers overflows n) where
     pub groups-inside : {begins middles links : List ℕ} → Stands p begins middles links → GroupsInside begins middles links n
     groups-inside there k l = group-inside there k (omega (arith, laid .count))
 
@@ -158,26 +158,28 @@ made a b c d e f g = rw (a, b, c, d, e, f, g)
 
 -- ---- what the passes leave, packed
 pub closed-lists :
-    (nodes : List ℕ) (numbers : List Float) (overflows : List Bool) (begins middles links : List ℕ) (n : ℕ) (s r : State) {heads demands flows demands' : List Float} {statuses statuses' : List ℕ}
-    → heads ≡ headsOf s → demands ≡ demandsOf s → flows ≡ flowsOf s → statuses ≡ statusesOf s
+    (nodes : List ℕ) (numbers : List Float) (overflows : List ℕ) (begins middles links : List ℕ) (n : ℕ) (s r : State) {heads demands demand-flows flows settings demands' : List Float} {statuses statuses' : List ℕ}
+    → heads ≡ headsOf s → demands ≡ demandsOf s → demand-flows ≡ demandFlowsOf s → flows ≡ flowsOf s → statuses ≡ statusesOf s → settings ≡ settingsOf s
     → statuses' ≡ linksClosed nodes numbers overflows begins middles links n heads flows statuses
     → demands' ≡ demandsSummed nodes begins middles links n flows demands
-    → NodesHold (r .nodes) (headsOf s) demands' (demandFlowsOf s) → LinksHold (r .links) (flowsOf s) statuses' (settingsOf s) → r .clock ≡ s .clock
+    → NodesHold (r .nodes) heads demands' demand-flows → LinksHold (r .links) flows statuses' settings → r .clock ≡ s .clock
     → listsOf r ≡ listsClosed nodes numbers overflows begins middles links n s
-closed-lists nodes numbers overflows begins middles links n s r h d f t a b x y k = made (x .head) (x .demand ∙ b ∙ rw (f, d)) (x .demand-flow) (y .flow) (y .status ∙ a ∙ rw (h, f, t)) (y .setting) k
+closed-lists nodes numbers overflows begins middles links n s r h d g f t u a b x y k = made (x .head ∙ h) (x .demand ∙ b ∙ rw (f, d)) (x .demand-flow ∙ g) (y .flow ∙ f) (y .status ∙ a ∙ rw (h, f, t)) (y .setting ∙ u) k
 
 -- ---- closing by the tables
-pub closed-by-is :
-    {p : Project} {nodes begins middles links : List ℕ} {numbers : List Float} {overflows : List Bool} {n : ℕ}
-    → TablesFit p → TanksLaid (p .nodes) (p .counts .nodes) nodes numbers overflows n → Stands p begins middles links
-    → (s : State) → length (s .links) ≡ 384 → (r : State) → listsOf r ≡ listsClosed nodes numbers overflows begins middles links n s → r ≡ updateTankLinks p s
-closed-by-is {p} fit laid there s long r q =
-    same-state r (updateTankLinks p s)
-    (q ∙ made
-    (sym (heads-kept p s))
-    (sum-demands-is laid (groups-laid fit laid there) s)
-    (sym (demand-flows-kept p s))
-    (sym (flows-same p s))
-    (close-links-is fit laid (groups-laid fit laid there) s long ∙ sym (statuses-same p s))
-    (sym (settings-kept p s))
-    (sym (clock-kept p s)))
+module _ {p : Project} {nodes begins middles links : List ℕ} {numbers : List Float} {overflows : List ℕ} {n : ℕ}
+    (fit : TablesFit p) (laid : TanksLaid (p .nodes) (p .counts .nodes) nodes numbers overflows n) (there : Stands p begins middles links)
+    (s : State) (long : length (s .links) ≡ 384) where
+  pub lists-closed-is : listsClosed nodes numbers overflows begins middles links n s ≡ listsOf (updateTankLinks p s)
+  lists-closed-is =
+      made
+      (sym (heads-kept p s))
+      (sum-demands-is laid (groups-laid fit laid there) s)
+      (sym (demand-flows-kept p s))
+      (sym (flows-same p s))
+      (close-links-is fit laid (groups-laid fit laid there) s long ∙ sym (statuses-same p s))
+      (sym (settings-kept p s))
+      (sym (clock-kept p s))
+
+  pub closed-by-is : (r : State) → listsOf r ≡ listsClosed nodes numbers overflows begins middles links n s → r ≡ updateTankLinks p s
+  closed-by-is r q = same-state r (updateTankLinks p s) (q ∙ lists-closed-is)

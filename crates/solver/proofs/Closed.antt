@@ -218,7 +218,7 @@ none false false found = or-false found
 
 -- ---- closing by the table
 pub close-links-is :
-    {p : Project} {nodes begins middles links : List ℕ} {numbers : List Float} {overflows : List Bool} {n : ℕ}
+    {p : Project} {nodes begins middles links : List ℕ} {numbers : List Float} {overflows : List ℕ} {n : ℕ}
     → TablesFit p → TanksLaid (p .nodes) (p .counts .nodes) nodes numbers overflows n → GroupsLaid p nodes begins middles links n → (s : State) → length (s .links) ≡ 384
     → linksClosed nodes numbers overflows begins middles links n (headsOf s) (map flowOf (s .links)) (map statusOf (s .links)) ≡ map statusOf (closeLinks p s .links)
 unfolding linksClosed any

@@ -2,3 +2,4 @@
 pub mod Summed
 pub mod Closed
 pub mod ByTable
+pub mod InForce

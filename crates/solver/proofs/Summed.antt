@@ -83,7 +83,7 @@ tank-is p j e = rw e
 
 -- ---- all of them
 pub sum-demands-is :
-    {p : Project} {nodes begins middles links : List ℕ} {numbers : List Float} {overflows : List Bool} {n : ℕ}
+    {p : Project} {nodes begins middles links : List ℕ} {numbers : List Float} {overflows : List ℕ} {n : ℕ}
     → TanksLaid (p .nodes) (p .counts .nodes) nodes numbers overflows n → GroupsLaid p nodes begins middles links n → (s : State)
     → demandsSummed nodes begins middles links n (map flowOf (s .links)) (demandsOf s) ≡ demandsOf (updateTankLinks p s)
 unfolding demandsSummed updateTankLinks

@@ -16,9 +16,9 @@ use tank_links::*;
 // Closing by the tables of a project's tanks and of their links: the state is unpacked, its statuses and its demands have a pass each, and it
 // is packed again.
 fn close_by<'a>(
-    nodes: &'a [usize; 256],
+    nodes: &'a [u32; 256],
     numbers: &'a [f64; 1280],
-    overflows: &'a [bool; 256],
+    overflows: &'a [u32; 256],
     begins: &'a [u32; 257],
     middles: &'a [u32; 256],
     links: &'a [u32; 768],
@@ -33,8 +33,10 @@ fn close_by<'a>(
     let ls = s.links;
     let heads = heads_of(ns);
     let mut demands = demands_of(ns);
+    let demand_flows = demand_flows_of(ns);
     let flows = flows_of(ls);
     let mut statuses = statuses_of(ls);
+    let settings = settings_of(ls);
     let clock = s.clock;
     run_tanks::close_links(
         nodes,
@@ -49,8 +51,8 @@ fn close_by<'a>(
         &mut statuses,
     );
     run_tanks::sum_demands(nodes, begins, middles, links, n, &flows, &mut demands);
-    let summed = with_demands(ns, demands);
-    let closed = with_statuses(ls, statuses);
+    let summed = nodes_from(heads, demands, demand_flows);
+    let closed = links_from(flows, statuses, settings);
     State {
         nodes: summed,
         links: closed,

@@ -6,6 +6,7 @@ use Rattle.model.specs.Blank.{linkAt, controlAt}
 use Rattle.model.specs.declared.control.ControlCondition.{ControlCondition}
 use Rattle.model.specs.declared.control.ControlCondition.the-variants.{HighPressure, LowPressure, HighLevel, LowLevel, Time, ClockTime}
 use Rattle.model.specs.declared.project.Project.{Project}
+use Rattle.run_controls.specs.Rows.{ControlsInside}
 use Rattle.tables.specs.Fit.{TablesFit, ConditionFit}
 
 watched-below : (nodes : ℕ) (c : ControlCondition) → nodes ≤ 256 → ConditionFit nodes c → watched c < 256
@@ -28,3 +29,6 @@ module _ {p : Project} (t : TablesFit p) (i : ℕ) where
 
   pub end-inside : i < p .counts .links → linkAt p i .end < 256
   end-inside l = omega (arith, t .few .nodes, t .link i l .end)
+
+pub controls-inside : {p : Project} → TablesFit p → ControlsInside (p .controls) (p .counts .controls)
+controls-inside t = record { most = t .few .controls; node = watched-inside t; link = controlled-inside t }

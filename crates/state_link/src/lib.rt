@@ -1,12 +1,10 @@
-// A link's part in the passes over a state: at the start, by a control, in closing and in the pressure pass. Each function is on one link, or
-// on one tank; the loops over them stand in state, run_tanks and solver.
+// A link's part in the passes over a state: at the start, in closing and in the pressure pass. Each function is on one link, or on one tank;
+// the loops over them stand in state, run_tanks and solver.
 mod closing;
-mod controls;
 mod pressure;
 mod start;
 
 pub use closing::empty_closed;
 pub use closing::fill_closed;
-pub use controls::controlled;
 pub use pressure::press;
 pub use start::start_link;

@@ -1,9 +1,6 @@
 -- Document 01, module 7: what `apply_patterns` makes of one node.
 use mathlib.Core.Bool.{cond}
-use mathlib.Core.List.{List}
-use lib.Dec.{ltb}
-use lib.Ieee.{Float, nan}
-use lib.ListN.{getD}
+use lib.Ieee.{Float}
 use Rattle.number.specs.Constants.{decimal}
 use Rattle.number.specs.Operators.{_·_, _⊕_}
 use Rattle.model.specs.declared.node.Demand.{Demand}
@@ -60,8 +57,3 @@ unfoldable pub patterned : (PatternIndex → Float) → Options → Node → Nod
 patterned m o n s =
     let demand = patternDemand m (o .«default_pattern») (o .«demand_multiplier») (n .kind) in
     record { head = patternHead m (n .kind) (s .head); demand = demand; «demand_flow» = cond (o .pda) demand (s .«demand_flow») }
-
--- a pattern's multiplier by a table of them; 1 where none is named, or one past the table, which no accepted project does
-abbrev pub tabled : List Float → PatternIndex → Float
-tabled table NoPattern = decimal 1 0
-tabled table (PatternAt k) = cond (ltb k 32) (getD table k nan) (decimal 1 0)

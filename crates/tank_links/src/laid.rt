@@ -35,7 +35,7 @@ pub fn no_entries() -> [u32; 768]
 pub fn lay_groups(
     table: [Link; 384],
     count: usize,
-    nodes: &[usize; 256],
+    nodes: &[u32; 256],
     n: usize,
     begins: &mut [u32; 257],
     middles: &mut [u32; 256],
@@ -62,7 +62,7 @@ pub fn lay_groups(
     let mut at = 0;
     let mut k = 0;
     while k < n {
-        let j = nodes[k];
+        let j = nodes[k] as usize;
         begins[k] = at as u32;
         let middle = put_chain(into[j], &next_into, links, at);
         middles[k] = middle as u32;

@@ -1,8 +1,10 @@
 -- `driver_image::open` meets its contract. Assumes nothing.
 use Prim.Native.Nat.{_/_, min}
-use mathlib.Core.Path.{sym, ap, _∙_}
+use mathlib.Core.Path.{refl, sym, ap, _∙_}
 use lib.ListN.{length}
 use lib.Seq.{length-take-le}
+use Rattle.image.specs.Parts.{partsOf}
+use Rattle.image.specs.declared.walk.Decoded.{Decoded}
 use Rattle.driver_image.proofs.Counting.{opened-as}
 use borrow.Author.Needs.{needs}
 use Rattle.driver_image.proofs.open.Statement.{statement}
@@ -20,17 +22,20 @@ words-of-requires c κs = search needs
 array-share-prefix-words : tie.Need-array-share-prefix-words
 array-share-prefix-words c = search needs
 
-slice-aggregate-decode : tie.Need-slice-aggregate-decode
-slice-aggregate-decode c = sym (length-take-le _ _ (search needs))
+slice-aggregate-decode-into : tie.Need-slice-aggregate-decode-into
+slice-aggregate-decode-into c = sym (length-take-le _ _ (search needs))
 
-decode-requires : tie.Need-decode-requires
-decode-requires c κs = search needs
+decode-into-requires : tie.Need-decode-into-requires
+decode-into-requires c κs = search needs
 
 returns : tie.Need-returns
 returns c =
-    let w = c .before .before .before .words-of in
-    let n = w .ensures .0 ∙ ap (min (length (c .before .before .before .before .before .before .before .args .bytes .now) / 4)) (sym (c .before .before .before .before .before .image-space .ensures)) in
-    opened-as (c .before .before .before .before .before .before .before .args .bytes .now) _ _ _ n (w .ensures .1) (c .decode .ensures)
+    let a = c .before .before .before .before .before .before .before .before .before .args in
+    let w = c .before .before .before .before .before .words-of in
+    let n = w .ensures .0 ∙ ap (min (length (a .bytes .now) / 4)) (sym (c .before .before .before .before .before .before .before .image-space .ensures)) in
+    let d = opened-as (a .bytes .now) _ _ _ n (w .ensures .1) refl in
+    let e = c .decode-into .ensures in
+    (e .0 ∙ ap partsOf d, (e .1 .0 ∙ ap (λ (x : Decoded). x .project .lengths) d, e .1 .1 ∙ ap (λ (x : Decoded). x .project .multipliers) d))
 
 pub open-spec : {M : Type 1} → statement M
 open-spec =
@@ -40,6 +45,6 @@ open-spec =
     slice-aggregate-words-of
     words-of-requires
     array-share-prefix-words
-    slice-aggregate-decode
-    decode-requires
+    slice-aggregate-decode-into
+    decode-into-requires
     returns)

@@ -1,11 +1,19 @@
--- `driver_io::drive_slices` meets its contract. Assumes nothing.
-use mathlib.Core.Path.{sym}
-use lib.ListN.{length-append}
-use lib.Seq.{length-take-le}
-use borrow.Author.Needs.{needs}
+-- `driver_io::drive_slices` meets its contract: an image without a fault is accepted. Assumes nothing.
+use mathlib.Core.Path.{_≡_, sym, _∙_}
+use Prim.Native.Nat.{ℕ, _*_}
+use mathlib.Core.List.{List, _++_}
+use lib.ListN.{length, length-append, take, drop}
+use lib.Seq.{length-take-le, length-front}
 use native.Mathlib.Omega.{arith}
+use Rattle.driver_io.proofs.Opened.{opened}
+use borrow.Author.Needs.{needs}
 use Rattle.driver_io.proofs.drive_slices.Statement.{statement}
 use Rattle.driver_io.proofs.drive_slices.Tie as tie
+
+-- a list is as long as before after its first four places, and then its first places, were lent
+lent-twice : (input first second : List ℕ) (size : ℕ) → length first ≡ length (take 4 input) → length second ≡ length (take size (first ++ drop 4 input))
+    → length (second ++ drop size (first ++ drop 4 input)) ≡ length input
+lent-twice input first second size a b = length-front (first ++ drop 4 input) second size b ∙ length-front input first 4 a
 
 slice-relend-prefix-read-full : tie.Need-slice-relend-prefix-read-full
 slice-relend-prefix-read-full c = search needs
@@ -61,6 +69,12 @@ same-length-4 c = search needs
 returns-2 : tie.Need-returns-2
 returns-2 c = search needs
 
+no-lengths-requires : tie.Need-no-lengths-requires
+no-lengths-requires c κs = search needs
+
+no-multipliers-requires : tie.Need-no-multipliers-requires
+no-multipliers-requires c κs = search needs
+
 slice-reshare-prefix-open : tie.Need-slice-reshare-prefix-open
 slice-reshare-prefix-open c = search needs
 
@@ -70,11 +84,11 @@ slice-aggregate-open c = sym (length-take-le _ _ (search needs))
 open-requires : tie.Need-open-requires
 open-requires c κs = search needs
 
-run-requires : tie.Need-run-requires
-run-requires c κs = omega (arith, c .before .before .before .before .before .before .before .before .before .before .before .before .before .before .before .before .before .before .before .before .pre .1)
+run-parts-requires : tie.Need-run-parts-requires
+run-parts-requires c κs = (omega (arith, c .before .before .before .before .before .before .before .before .before .before .before .before .before .before .before .before .before .before .before .before .before .before .before .before .pre .1), opened _ (c .before .before .before .before .open .ensures .0) (c .before .before .before .before .open .ensures .1 .0) (c .before .before .before .before .open .ensures .1 .1) (c .before .before .before .if3 .taken))
 
 same-length-5 : tie.Need-same-length-5
-same-length-5 c = search needs
+same-length-5 c = c .before .before .before .before .run-parts .kept .1 .1 .1 .0 ∙ lent-twice (c .before .before .before .before .before .before .before .before .before .before .before .before .before .before .before .before .before .before .before .before .before .before .before .before .before .before .before .before .before .args .input .now) (c .before .before .before .before .before .before .before .before .before .before .before .before .before .before .before .before .before .before .before .before .before .before .before .before .before .read-full .last .1 .0) (c .before .before .before .before .before .before .before .before .before .before .before .before .before .before .before .before .before .before .read-full2 .last .1 .0) (c .before .before .before .before .before .before .before .before .before .before .before .before .before .before .before .before .before .before .before .before .before .image-words .result * 4) (c .before .before .before .before .before .before .before .before .before .before .before .before .before .before .before .before .before .before .before .before .before .before .before .before .before .read-full .kept .1 .0) (c .before .before .before .before .before .before .before .before .before .before .before .before .before .before .before .before .before .before .read-full2 .kept .1 .0)
 
 same-length-6 : tie.Need-same-length-6
 same-length-6 c = search needs
@@ -86,7 +100,7 @@ refuse-requires-3 : tie.Need-refuse-requires-3
 refuse-requires-3 c κs = search needs
 
 same-length-7 : tie.Need-same-length-7
-same-length-7 c = search needs
+same-length-7 c = lent-twice (c .before .before .before .before .before .before .before .before .before .before .before .before .before .before .before .before .before .before .before .before .before .before .before .before .before .args .input .now) (c .before .before .before .before .before .before .before .before .before .before .before .before .before .before .before .before .before .before .before .before .before .read-full .last .1 .0) (c .before .before .before .before .before .before .before .before .before .before .before .before .before .before .read-full2 .last .1 .0) (c .before .before .before .before .before .before .before .before .before .before .before .before .before .before .before .before .before .image-words .result * 4) (c .before .before .before .before .before .before .before .before .before .before .before .before .before .before .before .before .before .before .before .before .before .read-full .kept .1 .0) (c .before .before .before .before .before .before .before .before .before .before .before .before .before .before .read-full2 .kept .1 .0)
 
 same-length-8 : tie.Need-same-length-8
 same-length-8 c = search needs
@@ -116,10 +130,12 @@ drive-slices-spec =
     same-length-3
     same-length-4
     returns-2
+    no-lengths-requires
+    no-multipliers-requires
     slice-reshare-prefix-open
     slice-aggregate-open
     open-requires
-    run-requires
+    run-parts-requires
     same-length-5
     same-length-6
     returns-3

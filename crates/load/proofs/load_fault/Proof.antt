@@ -1,38 +1,19 @@
 -- `load::load_fault` meets its contract. Assumes nothing.
-use borrow.Author.Tests.{not-true, not-false}
-use Rattle.load.proofs.Values.{values-small}
+use native.Mathlib.Omega.{arith}
 use Rattle.load.specs.Loads.{loadFault}
+use Rattle.load.proofs.Values.{values-most-fit}
 use Rattle.load.proofs.load_fault.Statement.{statement}
 use Rattle.load.proofs.load_fault.Tie as tie
 
 value-count-requires : tie.Need-value-count-requires
 value-count-requires c κs = c .before .pre
 
-shape-ok-requires : tie.Need-shape-ok-requires
-shape-ok-requires c κs = rw (c .value-count .ensures) (values-small (c .before .before .pre))
+load-fault-requires : tie.Need-load-fault-requires
+load-fault-requires c κs = omega (arith, c .value-count .ensures, values-most-fit (c .before .before .pre))
 
 returns : tie.Need-returns
 unfolding loadFault
-returns c = rw (← c .before .before .value-count .ensures, ← c .before .shape-ok .ensures, not-true (c .before .shape-ok .result) (c .if1 .taken))
-
-values-ok-requires : tie.Need-values-ok-requires
-values-ok-requires c κs = rw (c .before .before .value-count .ensures) (values-small (c .before .before .before .before .pre))
-
-returns-2 : tie.Need-returns-2
-unfolding loadFault
-returns-2 c = rw (← c .before .before .before .before .value-count .ensures, ← c .before .before .before .shape-ok .ensures, not-false (c .before .before .before .shape-ok .result) (c .before .before .if1 .left), ← c .before .values-ok .ensures, not-true (c .before .values-ok .result) (c .if2 .taken))
-
-returns-3 : tie.Need-returns-3
-unfolding loadFault
-returns-3 c = rw (← c .before .before .before .before .value-count .ensures, ← c .before .before .before .shape-ok .ensures, not-false (c .before .before .before .shape-ok .result) (c .before .before .if1 .left), ← c .before .values-ok .ensures, not-false (c .before .values-ok .result) (c .if2 .left))
+returns c = rw (← c .before .value-count .ensures) (c .load-fault .ensures)
 
 pub load-fault-spec : {M : Type 1} → statement M
-load-fault-spec =
-    tie.close
-    (tie.spec
-    value-count-requires
-    shape-ok-requires
-    returns
-    values-ok-requires
-    returns-2
-    returns-3)
+load-fault-spec = tie.close (tie.spec value-count-requires load-fault-requires returns)

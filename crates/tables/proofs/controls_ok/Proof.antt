@@ -1,18 +1,20 @@
 -- `tables::controls_ok` meets its contract. The invariant: the test holds of every entry passed, so one that fails decides. Assumes nothing.
 use Prim.Native.Nat.{_-_}
 use mathlib.Core.Path.{refl, sym}
+use lib.ListN.{getD}
+use Rattle.model.specs.Blank.{blankControl}
 use Rattle.model.proofs.Loops.{Held, held-begun, held-turned, held-ended, held-failed}
+use Rattle.table_entry.specs.Fits.{controlFits}
 use Rattle.table_entry.proofs.Tests.{failed, passed}
-use Rattle.tables.specs.Tables.{controlFitsAt, controlsOk}
 use borrow.Author.Needs.{needs}
 use Rattle.tables.proofs.controls_ok.Statement.{statement}
 use Rattle.tables.proofs.controls_ok.Tie as tie
 
 abbrev Inv-loop : tie.InvT-loop
-Inv-loop p nodes links n i₀ i = Held n (controlFitsAt p) i
+Inv-loop n nodes links table i₀ i = Held n (λ k. controlFits nodes links (getD table k blankControl)) i
 
 abbrev μ-loop : tie.MeasureT-loop
-μ-loop p nodes links n i₀ i = n - i
+μ-loop n nodes links table i₀ i = n - i
 
 loop-holds : tie.Need-loop-holds Inv-loop μ-loop
 loop-holds c = held-begun
@@ -20,14 +22,13 @@ loop-holds c = held-begun
 mul-control-fits : tie.Need-mul-control-fits Inv-loop μ-loop
 mul-control-fits c = search needs
 
-element-copy-out-control-fits : tie.Need-element-copy-out-control-fits Inv-loop μ-loop
-element-copy-out-control-fits c = search needs
+array-copy-out-control-fits : tie.Need-array-copy-out-control-fits Inv-loop μ-loop
+array-copy-out-control-fits c = search needs
 
 control-fits-requires : tie.Need-control-fits-requires Inv-loop μ-loop
 control-fits-requires c κs = search needs
 
 returns : tie.Need-returns Inv-loop μ-loop
-unfolding controlsOk
 returns c = sym (held-failed _ _ (c .before .before .before .before .loop .i) (search needs) (failed (c .before .control-fits .ensures) (c .if1 .taken)))
 
 add-i : tie.Need-add-i Inv-loop μ-loop
@@ -40,7 +41,6 @@ loop-again : tie.Need-loop-again Inv-loop μ-loop
 loop-again c = held-turned (c .before .before .before .before .loop .inv) (search needs) (passed (c .before .control-fits .ensures) (c .if1 .left))
 
 returns-2 : tie.Need-returns-2 Inv-loop μ-loop
-unfolding controlsOk
 returns-2 c = sym (held-ended (c .before .loop .inv) (c .loop-test .left) refl)
 
 pub controls-ok-spec : {M : Type 1} → statement M
@@ -51,7 +51,7 @@ controls-ok-spec =
     μ-loop
     loop-holds
     mul-control-fits
-    element-copy-out-control-fits
+    array-copy-out-control-fits
     control-fits-requires
     returns
     add-i

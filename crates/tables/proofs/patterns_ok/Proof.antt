@@ -1,18 +1,19 @@
 -- `tables::patterns_ok` meets its contract. The invariant: the test holds of every entry passed, so one that fails decides. Assumes nothing.
 use Prim.Native.Nat.{_-_}
 use mathlib.Core.Path.{refl, sym}
+use lib.ListN.{getD}
 use Rattle.model.proofs.Loops.{Held, held-begun, held-turned, held-ended, held-failed}
 use Rattle.table_entry.proofs.Tests.{failed, passed}
-use Rattle.tables.specs.Tables.{patternOkAt, patternsOk}
+use Rattle.table_entry.specs.Fits.{patternOk}
 use borrow.Author.Needs.{needs}
 use Rattle.tables.proofs.patterns_ok.Statement.{statement}
 use Rattle.tables.proofs.patterns_ok.Tie as tie
 
 abbrev Inv-loop : tie.InvT-loop
-Inv-loop p n lengths k₀ k = Held n (patternOkAt p) k
+Inv-loop multipliers n lengths k₀ k = Held n (λ j. patternOk multipliers j (getD lengths j 0)) k
 
 abbrev μ-loop : tie.MeasureT-loop
-μ-loop p n lengths k₀ k = n - k
+μ-loop multipliers n lengths k₀ k = n - k
 
 loop-holds : tie.Need-loop-holds Inv-loop μ-loop
 loop-holds c = held-begun
@@ -27,8 +28,7 @@ pattern-ok-requires : tie.Need-pattern-ok-requires Inv-loop μ-loop
 pattern-ok-requires c κs = search needs
 
 returns : tie.Need-returns Inv-loop μ-loop
-unfolding patternsOk
-returns c = sym (held-failed _ _ (c .before .before .before .before .before .loop .k) (search needs) (failed (c .before .pattern-ok .ensures) (c .if1 .taken)))
+returns c = sym (held-failed _ _ (c .before .before .before .loop .k) (search needs) (failed (c .before .pattern-ok .ensures) (c .if1 .taken)))
 
 add-k : tie.Need-add-k Inv-loop μ-loop
 add-k c = search needs
@@ -37,10 +37,9 @@ loop-less : tie.Need-loop-less Inv-loop μ-loop
 loop-less c = search needs
 
 loop-again : tie.Need-loop-again Inv-loop μ-loop
-loop-again c = held-turned (c .before .before .before .before .before .loop .inv) (search needs) (passed (c .before .pattern-ok .ensures) (c .if1 .left))
+loop-again c = held-turned (c .before .before .before .loop .inv) (search needs) (passed (c .before .pattern-ok .ensures) (c .if1 .left))
 
 returns-2 : tie.Need-returns-2 Inv-loop μ-loop
-unfolding patternsOk
 returns-2 c = sym (held-ended (c .before .loop .inv) (c .loop-test .left) refl)
 
 pub patterns-ok-spec : {M : Type 1} → statement M

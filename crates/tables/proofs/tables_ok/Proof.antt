@@ -1,5 +1,5 @@
 -- `tables::tables_ok` meets its contract. Counts that pass are few, as the tests of the tables require; the answer is by what each call ensures. Assumes nothing.
-use Rattle.tables.specs.Tables.{tablesOk}
+use Rattle.tables.specs.Tables.{patternsOk, nodesOk, linksOk, controlsOk, premisesOk, tablesOk}
 use Rattle.tables.proofs.Fits.{few-of-counts}
 use Rattle.table_entry.proofs.Tests.{failed, passed}
 use borrow.Author.Needs.{needs}
@@ -20,31 +20,31 @@ pattern-index-ok-requires : tie.Need-pattern-index-ok-requires
 pattern-index-ok-requires c κs = search needs
 
 patterns-ok-requires : tie.Need-patterns-ok-requires
-patterns-ok-requires c κs = few-of-counts _ (passed (c .before .before .before .counts-ok .ensures) (c .before .before .if1 .left))
+patterns-ok-requires c κs = few-of-counts _ (passed (c .before .before .before .before .before .before .counts-ok .ensures) (c .before .before .before .before .before .if1 .left)) .patterns
 
 nodes-ok-requires : tie.Need-nodes-ok-requires
-nodes-ok-requires c κs = few-of-counts _ (passed (c .before .before .before .before .counts-ok .ensures) (c .before .before .before .if1 .left))
+nodes-ok-requires c κs = few-of-counts _ (passed (c .before .before .before .before .before .before .before .before .counts-ok .ensures) (c .before .before .before .before .before .before .before .if1 .left)) .nodes
 
 links-ok-requires : tie.Need-links-ok-requires
-links-ok-requires c κs = few-of-counts _ (passed (c .before .before .before .before .before .counts-ok .ensures) (c .before .before .before .before .if1 .left))
+links-ok-requires c κs = few-of-counts _ (passed (c .before .before .before .before .before .before .before .before .before .before .counts-ok .ensures) (c .before .before .before .before .before .before .before .before .before .if1 .left)) .links
 
 controls-ok-requires : tie.Need-controls-ok-requires
-controls-ok-requires c κs = few-of-counts _ (passed (c .before .before .before .before .before .before .counts-ok .ensures) (c .before .before .before .before .before .if1 .left))
+controls-ok-requires c κs = few-of-counts _ (passed (c .before .before .before .before .before .before .before .before .before .before .before .before .counts-ok .ensures) (c .before .before .before .before .before .before .before .before .before .before .before .if1 .left)) .controls
 
 premises-ok-requires : tie.Need-premises-ok-requires
-premises-ok-requires c κs = few-of-counts _ (passed (c .before .before .before .before .before .before .before .counts-ok .ensures) (c .before .before .before .before .before .before .if1 .left))
+premises-ok-requires c κs = few-of-counts _ (passed (c .before .before .before .before .before .before .before .before .before .before .before .before .before .before .counts-ok .ensures) (c .before .before .before .before .before .before .before .before .before .before .before .before .before .if1 .left)) .premises
 
 returns-2 : tie.Need-returns-2
-unfolding tablesOk
+unfolding tablesOk patternsOk nodesOk linksOk controlsOk premisesOk
 returns-2 c =
     rw (
-      passed (c .before .before .before .before .before .before .before .before .counts-ok .ensures) (c .before .before .before .before .before .before .before .if1 .left),
-      c .before .before .before .before .before .before .options-ok .ensures,
-      c .before .before .before .before .before .pattern-index-ok .ensures,
-      c .before .before .before .before .patterns-ok .ensures,
-      c .before .before .before .nodes-ok .ensures,
-      c .before .before .links-ok .ensures,
-      c .before .controls-ok .ensures,
+      passed (c .before .before .before .before .before .before .before .before .before .before .before .before .before .before .before .counts-ok .ensures) (c .before .before .before .before .before .before .before .before .before .before .before .before .before .before .if1 .left),
+      c .before .before .before .before .before .before .before .before .before .before .before .before .before .options-ok .ensures,
+      c .before .before .before .before .before .before .before .before .before .before .before .before .pattern-index-ok .ensures,
+      c .before .before .before .before .before .before .before .before .patterns-ok .ensures,
+      c .before .before .before .before .before .before .nodes-ok .ensures,
+      c .before .before .before .before .links-ok .ensures,
+      c .before .before .controls-ok .ensures,
       c .premises-ok .ensures,
     )
 

@@ -16,11 +16,14 @@ Inv-loop n table nodes₀ count₀ i₀ nodes count i = (i ≤ n) × (length nod
 abbrev μ-loop : tie.MeasureT-loop
 μ-loop n table nodes₀ count₀ i₀ nodes count i = n - i
 
-no-nodes-requires : tie.Need-no-nodes-requires Inv-loop μ-loop
-no-nodes-requires c κs = tt
+no-words-requires : tie.Need-no-words-requires Inv-loop μ-loop
+no-words-requires c κs = tt
 
 loop-holds : tie.Need-loop-holds Inv-loop μ-loop
-loop-holds c = (omega arith, sym (c .no-nodes .ensures), push-none _ _)
+loop-holds c = (omega arith, sym (c .no-words .ensures), push-none _ _)
+
+cast-nodes : tie.Need-cast-nodes Inv-loop μ-loop
+cast-nodes c = omega (arith, c .before .before .before .pre)
 
 mul-nodes : tie.Need-mul-nodes Inv-loop μ-loop
 mul-nodes c = omega (arith, c .before .loop .inv .2 .few, c .before .before .before .pre)
@@ -55,8 +58,9 @@ tank-nodes-spec =
     (tie.spec
     Inv-loop
     μ-loop
-    no-nodes-requires
+    no-words-requires
     loop-holds
+    cast-nodes
     mul-nodes
     array-write-nodes
     mul-with-tank

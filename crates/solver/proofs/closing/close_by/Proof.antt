@@ -11,11 +11,17 @@ heads-of-requires c κs = search needs
 demands-of-requires : tie.Need-demands-of-requires
 demands-of-requires c κs = search needs
 
+demand-flows-of-requires : tie.Need-demand-flows-of-requires
+demand-flows-of-requires c κs = search needs
+
 flows-of-requires : tie.Need-flows-of-requires
 flows-of-requires c κs = search needs
 
 statuses-of-requires : tie.Need-statuses-of-requires
 statuses-of-requires c κs = search needs
+
+settings-of-requires : tie.Need-settings-of-requires
+settings-of-requires c κs = search needs
 
 close-links-requires : tie.Need-close-links-requires
 close-links-requires c κs = search needs
@@ -23,18 +29,18 @@ close-links-requires c κs = search needs
 sum-demands-requires : tie.Need-sum-demands-requires
 sum-demands-requires c κs = search needs
 
-with-demands-requires : tie.Need-with-demands-requires
-with-demands-requires c κs = search needs
+nodes-from-requires : tie.Need-nodes-from-requires
+nodes-from-requires c κs = search needs
 
-with-statuses-requires : tie.Need-with-statuses-requires
-with-statuses-requires c κs = search needs
+links-from-requires : tie.Need-links-from-requires
+links-from-requires c κs = search needs
 
 returns : tie.Need-returns
 returns c =
-    let a = c .before .before .before .before .before .before .before .before .before .before .before .before .before .before .before .before .args in
+    let a = c .before .before .before .before .before .before .before .before .before .before .before .before .before .before .before .before .before .before .args in
     closed-lists (a .nodes .now) (a .numbers .now) (a .overflows .now) (a .begins .now) (a .middles .now) (a .links .now) (a .n) (a .s) _
-    (c .before .before .before .before .before .before .before .before .before .before .before .before .before .heads-of .ensures) (c .before .before .before .before .before .before .before .before .before .before .before .before .demands-of .ensures) (c .before .before .before .before .before .before .before .before .before .before .before .flows-of .ensures) (c .before .before .before .before .before .before .before .before .before .before .statuses-of .ensures)
-    (c .before .before .before .before .before .close-links .ensures) (c .before .before .sum-demands .ensures) (c .before .with-demands .ensures) (c .with-statuses .ensures) refl
+    (c .before .before .before .before .before .before .before .before .before .before .before .before .before .before .before .heads-of .ensures) (c .before .before .before .before .before .before .before .before .before .before .before .before .before .before .demands-of .ensures) (c .before .before .before .before .before .before .before .before .before .before .before .before .before .demand-flows-of .ensures) (c .before .before .before .before .before .before .before .before .before .before .before .before .flows-of .ensures) (c .before .before .before .before .before .before .before .before .before .before .before .statuses-of .ensures) (c .before .before .before .before .before .before .before .before .before .before .settings-of .ensures)
+    (c .before .before .before .before .before .close-links .ensures) (c .before .before .sum-demands .ensures) (c .before .nodes-from .ensures) (c .links-from .ensures) refl
 
 pub close-by-spec : {M : Type 1} → statement M
 close-by-spec =
@@ -42,10 +48,12 @@ close-by-spec =
     (tie.spec
     heads-of-requires
     demands-of-requires
+    demand-flows-of-requires
     flows-of-requires
     statuses-of-requires
+    settings-of-requires
     close-links-requires
     sum-demands-requires
-    with-demands-requires
-    with-statuses-requires
+    nodes-from-requires
+    links-from-requires
     returns)

@@ -1,77 +1,63 @@
--- `state::patterns::apply_patterns` meets its contract. Assumes nothing.
-use Prim.Native.Nat.{_-_}
-use mathlib.Core.Path.{refl}
+-- `state::patterns::apply_patterns` meets its contract. The passes on what is laid out and unpacked, packed. Assumes nothing.
+use Prim.Native.Nat.{_≤_}
+use mathlib.Core.Path.{refl, sym}
 use native.Mathlib.Omega.{arith}
-use Rattle.model.proofs.Loops.{Ran, begun, turned, ended}
-use Rattle.state.proofs.Table.{table-is}
-use Rattle.state.specs.Patterns.{nodePatterned, applyPatterns}
-use Rattle.state_patterns.specs.Patterns.{tabled}
-use borrow.Author.Needs.{needs}
+use lib.ListN.{length}
+use Rattle.model.proofs.Each.{mapped}
+use Rattle.run_sources.proofs.Inside.{demands-inside, heads-inside}
+use Rattle.state.proofs.Patterned.{patterns-packed}
 use Rattle.state.proofs.patterns.apply_patterns.Statement.{statement}
 use Rattle.state.proofs.patterns.apply_patterns.Tie as tie
 
-abbrev Inv-loop : tie.InvT-loop
-Inv-loop p st₀ o t n i₀ st i = Ran n (nodePatterned p (tabled t)) st₀ i st
+room : (c : tie.Start) → c .args .t1 .counts .nodes ≤ length (c .args .s .nodes)
+room c = omega (arith, c .pre .few .nodes, mapped _ (c .args .s .nodes) 256 (c .good .1 .0 .1 .1 .0 .1 .0 .1))
 
-abbrev μ-loop : tie.MeasureT-loop
-μ-loop p st₀ o t n i₀ st i = n - i
+demand-table-requires : tie.Need-demand-table-requires
+demand-table-requires c κs = c .before .before .pre .few .nodes
 
-period-table-requires : tie.Need-period-table-requires Inv-loop μ-loop
-period-table-requires c κs = tt
+head-table-requires : tie.Need-head-table-requires
+head-table-requires c κs = c .before .before .before .pre .few .nodes
 
-loop-holds : tie.Need-loop-holds Inv-loop μ-loop
-loop-holds c = begun
+no-multipliers-requires : tie.Need-no-multipliers-requires
+no-multipliers-requires c κs = tt
 
-mul-patterned : tie.Need-mul-patterned Inv-loop μ-loop
-mul-patterned c = omega (arith, c .before .before .before .before .before .pre .few .nodes)
+heads-of-requires : tie.Need-heads-of-requires
+heads-of-requires c κs = tt
 
-element-copy-out-patterned : tie.Need-element-copy-out-patterned Inv-loop μ-loop
-element-copy-out-patterned c = omega (arith, c .before .before .before .before .before .pre .few .nodes)
+demands-of-requires : tie.Need-demands-of-requires
+demands-of-requires c κs = tt
 
-mul-patterned-2 : tie.Need-mul-patterned-2 Inv-loop μ-loop
-mul-patterned-2 c = omega (arith, c .before .before .before .before .before .before .pre .few .nodes)
+demand-flows-of-requires : tie.Need-demand-flows-of-requires
+demand-flows-of-requires c κs = tt
 
-element-copy-out-patterned-2 : tie.Need-element-copy-out-patterned-2 Inv-loop μ-loop
-element-copy-out-patterned-2 c = omega (arith, c .before .before .before .before .before .before .pre .few .nodes)
+fill-patterns-requires : tie.Need-fill-patterns-requires
+fill-patterns-requires c κs =
+    let few = c .before .before .before .before .before .before .before .before .before .before .before .before .before .before .before .before .before .before .before .before .before .before .before .before .before .before .pre .few .nodes in (
+      demands-inside (c .before .before .before .before .before .before .before .before .before .before .before .before .before .before .before .before .before .before .before .before .before .before .before .demand-table .ensures) few,
+      heads-inside (c .before .before .before .before .before .before .before .before .before .before .before .before .before .before .before .before .before .before .before .before .before .before .head-table .ensures) few,
+    )
 
-patterned-requires : tie.Need-patterned-requires Inv-loop μ-loop
-patterned-requires c κs = tt
+nodes-from-requires : tie.Need-nodes-from-requires
+nodes-from-requires c κs = tt
 
-mul-t22 : tie.Need-mul-t22 Inv-loop μ-loop
-mul-t22 c = omega (arith, c .before .before .before .before .before .before .before .before .pre .few .nodes)
-
-element-set-from-st : tie.Need-element-set-from-st Inv-loop μ-loop
-element-set-from-st c = omega (arith, c .before .before .before .before .before .before .before .before .pre .few .nodes)
-
-add-i : tie.Need-add-i Inv-loop μ-loop
-add-i c = omega (arith, c .before .before .before .before .before .before .before .before .pre .few .nodes)
-
-loop-less : tie.Need-loop-less Inv-loop μ-loop
-loop-less c = search needs
-
-loop-again : tie.Need-loop-again Inv-loop μ-loop
-loop-again c = turned (c .before .before .before .before .before .loop .inv) (search needs) (rw (c .patterned .ensures))
-
-returns : tie.Need-returns Inv-loop μ-loop
-unfolding applyPatterns
-returns c = rw (← table-is, ← c .before .before .period-table .ensures) (ended (c .before .loop .inv) (c .loop-test .left) refl)
+returns : tie.Need-returns
+returns c =
+    let a = c .before .before .before .before .before .before .before .before .before .before .before .before .before .before .before .before .before .before .before .before .before .before .before .before .before .before .before .before in
+    patterns-packed (a .args .t1) _ (a .args .s) _
+    (record { lengths = refl; multipliers = refl; start = refl; timestep = refl; scale = refl; pda = refl; n = refl; demands = c .before .before .before .before .before .before .before .before .before .before .before .before .before .before .before .before .before .before .before .before .before .before .before .before .before .demand-table .ensures; heads = c .before .before .before .before .before .before .before .before .before .before .before .before .before .before .before .before .before .before .before .before .before .before .before .before .head-table .ensures })
+    (record { head = sym (c .before .before .before .before .before .before .before .before .before .before .before .before .before .before .before .before .before .before .before .heads-of .ensures); demand = sym (c .before .before .before .before .before .before .before .before .before .before .before .before .before .before .before .before .before .before .demands-of .ensures); demand-flow = sym (c .before .before .before .before .before .before .before .before .before .before .before .before .before .before .before .before .before .demand-flows-of .ensures) })
+    (sym (c .before .before .before .before .before .before .before .before .before .before .before .before .before .before .before .before .before .before .before .before .no-multipliers .ensures)) (room a) (c .before .fill-patterns .ensures) (c .nodes-from .ensures) refl refl
 
 pub apply-patterns-spec : {M : Type 1} → statement M
 apply-patterns-spec =
     tie.close
     (tie.spec
-    Inv-loop
-    μ-loop
-    period-table-requires
-    loop-holds
-    mul-patterned
-    element-copy-out-patterned
-    mul-patterned-2
-    element-copy-out-patterned-2
-    patterned-requires
-    mul-t22
-    element-set-from-st
-    add-i
-    loop-less
-    loop-again
+    demand-table-requires
+    head-table-requires
+    no-multipliers-requires
+    heads-of-requires
+    demands-of-requires
+    demand-flows-of-requires
+    fill-patterns-requires
+    nodes-from-requires
     returns)

@@ -3,37 +3,37 @@ use Prim.Native.Nat.{_-_}
 use mathlib.Core.Path.{refl}
 use native.Mathlib.Omega.{arith}
 use Rattle.model.proofs.Loops.{Ran, begun, turned, ended}
-use Rattle.state.specs.Start.{linkStarted, startLinks}
+use Rattle.state.specs.Starting.{linkStartedIn, linksStarted}
 use borrow.Author.Needs.{needs}
 use Rattle.state.proofs.start.start_links.Statement.{statement}
 use Rattle.state.proofs.start.start_links.Tie as tie
 
 abbrev Inv-loop : tie.InvT-loop
-Inv-loop p st₀ n i₀ st i = Ran n (linkStarted p) st₀ i st
+Inv-loop n table st₀ i₀ st i = Ran n (linkStartedIn table) st₀ i st
 
 abbrev μ-loop : tie.MeasureT-loop
-μ-loop p st₀ n i₀ st i = n - i
+μ-loop n table st₀ i₀ st i = n - i
 
 loop-holds : tie.Need-loop-holds Inv-loop μ-loop
 loop-holds c = begun
 
 mul-start-link : tie.Need-mul-start-link Inv-loop μ-loop
-mul-start-link c = omega (arith, c .before .before .pre .few .links)
+mul-start-link c = omega (arith, c .before .before .pre)
 
-element-copy-out-start-link : tie.Need-element-copy-out-start-link Inv-loop μ-loop
-element-copy-out-start-link c = omega (arith, c .before .before .pre .few .links)
+array-copy-out-start-link : tie.Need-array-copy-out-start-link Inv-loop μ-loop
+array-copy-out-start-link c = omega (arith, c .before .before .pre)
 
 start-link-requires : tie.Need-start-link-requires Inv-loop μ-loop
 start-link-requires c κs = search needs
 
 mul-t13 : tie.Need-mul-t13 Inv-loop μ-loop
-mul-t13 c = omega (arith, c .before .before .before .before .pre .few .links)
+mul-t13 c = omega (arith, c .before .before .before .before .pre)
 
 element-set-from-st : tie.Need-element-set-from-st Inv-loop μ-loop
-element-set-from-st c = omega (arith, c .before .before .before .before .pre .few .links)
+element-set-from-st c = omega (arith, c .before .before .before .before .pre)
 
 add-i : tie.Need-add-i Inv-loop μ-loop
-add-i c = omega (arith, c .before .before .before .before .pre .few .links)
+add-i c = omega (arith, c .before .before .before .before .pre)
 
 loop-less : tie.Need-loop-less Inv-loop μ-loop
 loop-less c = search needs
@@ -42,7 +42,7 @@ loop-again : tie.Need-loop-again Inv-loop μ-loop
 loop-again c = turned (c .before .before .before .loop .inv) (search needs) (rw (c .start-link .ensures))
 
 returns : tie.Need-returns Inv-loop μ-loop
-unfolding startLinks
+unfolding linksStarted
 returns c = ended (c .before .loop .inv) (c .loop-test .left) refl
 
 pub start-links-spec : {M : Type 1} → statement M
@@ -53,7 +53,7 @@ start-links-spec =
     μ-loop
     loop-holds
     mul-start-link
-    element-copy-out-start-link
+    array-copy-out-start-link
     start-link-requires
     mul-t13
     element-set-from-st

@@ -56,6 +56,9 @@ mul-j c = omega (arith, low c)
 element-copy-out-j : tie.Need-element-copy-out-j Inv-loop μ-loop
 element-copy-out-j c = low c
 
+cast-j : tie.Need-cast-j Inv-loop μ-loop
+cast-j c = omega (arith, node-in (c .before))
+
 cast-begins : tie.Need-cast-begins Inv-loop μ-loop
 cast-begins c = omega (arith, fits (c .before))
 
@@ -140,6 +143,7 @@ lay-groups-spec =
     loop-holds
     mul-j
     element-copy-out-j
+    cast-j
     cast-begins
     mul-begins
     element-write-begins

@@ -5,6 +5,12 @@ use borrow.Author.Needs.{needs}
 use Rattle.model.proofs.project.Project.empty.Statement.{statement}
 use Rattle.model.proofs.project.Project.empty.Tie as tie
 
+blank-options-requires : tie.Need-blank-options-requires
+blank-options-requires c κs = search needs
+
+no-counts-requires : tie.Need-no-counts-requires
+no-counts-requires c κs = search needs
+
 blank-node-requires : tie.Need-blank-node-requires
 blank-node-requires c κs = search needs
 
@@ -19,12 +25,21 @@ blank-premise-requires c κs = search needs
 
 returns : tie.Need-returns
 unfolding emptyProject div ofBits
-returns c = rw (c .before .before .before .blank-node .ensures, c .before .before .blank-link .ensures, c .before .blank-control .ensures, c .blank-premise .ensures)
+returns c = rw (
+  c .before .before .before .before .before .blank-options .ensures,
+  c .before .before .before .before .no-counts .ensures,
+  c .before .before .before .blank-node .ensures,
+  c .before .before .blank-link .ensures,
+  c .before .blank-control .ensures,
+  c .blank-premise .ensures,
+)
 
 pub empty-spec : {M : Type 1} → statement M
 empty-spec =
     tie.close
     (tie.spec
+    blank-options-requires
+    no-counts-requires
     blank-node-requires
     blank-link-requires
     blank-control-requires

@@ -1,0 +1,4 @@
+pub mod Triggers
+pub mod Calls
+pub mod Levels
+pub mod Next
