@@ -1,10 +1,12 @@
 // The driver between two descriptors: it reads an image and loads, and writes the listing. This crate only moves bytes; what they are is put
 // together by `driver_image` and `driver_chunk`. No contract can say what is read or written: the law `image-accepted` of `driver_printed` says that the
 // chunks' texts, written one after the other, are what document 01 asks for.
-ghost use Prim.Native.Nat.{_+_, _-_, _≤_};
+ghost use Prim.Native.Nat.{_+_, _-_, _≤_, min};
 ghost use mathlib.Core.Path.{_≡_};
 ghost use mathlib.Core.List.{_++_};
 ghost use lib.ListN.{length, take, drop};
+ghost use Rattle.state.specs.Starting.{startFrom};
+ghost use Rattle.driver_tables.specs.Laid.{PartsInside, LaidFrom};
 ghost use Rattle.driver_chunk.specs.Chunks.{RunOf};
 ghost use Rattle.driver_io.specs.Held.{Filled, Accepted};
 use driver_tables::Tables;
@@ -86,7 +88,7 @@ fn refill(input: &mut [u8], h: Held, wants: usize, from: i32) -> Held
     }
 }
 
-// The run by the tables of a project, from its state at the start.
+// The run by the tables of a project, from its state at the start. Tables are handed over once a chunk.
 fn run(
     t: Tables,
     multipliers: &[f64; 5376],
@@ -121,31 +123,6 @@ fn run(
     }
 }
 
-// The run of what an image says: the header, the tables, laid out once, and the start.
-fn run_parts(
-    parts: Parts,
-    lengths: [usize; 32],
-    multipliers: &[f64; 5376],
-    input: &mut [u8],
-    out: &mut [u8],
-    from: i32,
-    to: i32,
-)
-    requires { ⌜ 22 ≤ length (now out) ⌝ }
-    requires { ⌜ Accepted parts lengths (now multipliers) ⌝ }
-{
-    let h = listing::put_header(out, 0);
-    io::write_all(to, &out[..h]);
-    let options = parts.options;
-    let counts = parts.counts;
-    let nodes = parts.nodes;
-    let links = parts.links;
-    let controls = parts.controls;
-    let t = lay_out(options, counts, lengths, nodes, links, controls);
-    let start = start_from(nodes, counts.nodes, links, counts.links);
-    run(t, multipliers, start, input, out, from, to);
-}
-
 // Room for the patterns of an image.
 fn no_lengths() -> [usize; 32] {
     [0; 32]
@@ -155,40 +132,113 @@ fn no_multipliers() -> [f64; 5376] {
     [0.0; 5376]
 }
 
-// The image, and then the run.
-fn drive_slices(input: &mut [u8], out: &mut [u8], from: i32, to: i32)
-    requires { ⌜ 65536 ≡ length (now input) ⌝ }
-    requires { ⌜ 22 ≤ length (now out) ⌝ }
-{
-    let n = io::read_full(from, &mut input[..4]);
-    let count = driver_image::image_words(&input[..n]);
-    if count == 0 {
-        refuse(1, out, to);
-        return;
-    }
-    let size = count * 4;
-    let got = io::read_full(from, &mut input[..size]);
-    if got < size {
-        refuse(1, out, to);
-        return;
-    }
-    let mut lengths = no_lengths();
-    let mut multipliers = no_multipliers();
-    let parts = driver_image::open(&input[..size], &mut lengths, &mut multipliers);
-    let fault = parts.fault;
-    if fault == 0 {
-        run_parts(parts, lengths, &multipliers, input, out, from, to);
-        return;
-    }
-    refuse(fault, out, to);
+// Room for the words of an image.
+fn no_words() -> [u32; 16384] {
+    [0; 16384]
 }
 
-// Room for the listing's lines, of a chunk at a time.
-pub fn out_buffer() -> [u8; 8192] {
+fn least(a: usize, b: usize) -> usize
+    ensures { λ r. ⌜ r ≡ min a b ⌝ }
+{
+    if a < b { a } else { b }
+}
+
+// Reads as many words as both have room for, and answers how many there are: none where the input ends before the last of them.
+fn read_piece(from: i32, buf: &mut [u8], words: &mut [u32]) -> usize
+    ensures { λ r. ⌜ r ≤ length (now (words .entry)) ⌝ }
+{
+    let size = least(buf.len() / 4, words.len()) * 4;
+    let got = io::read_full(from, &mut buf[..size]);
+    if got < size {
+        return 0;
+    }
+    words::words_of(&buf[..size], words)
+}
+
+// Reads count words, piece by piece, and answers how many there are: none where one is missing, since an image of no words has the same number.
+fn read_words(from: i32, buf: &mut [u8], words: &mut [u32], count: usize) -> usize
+    requires { ⌜ count ≤ length (now words) ⌝ }
+    ensures { λ r. ⌜ r ≤ length (now (words .entry)) ⌝ }
+{
+    let mut n = 0;
+    while n < count {
+        let got = read_piece(from, buf, &mut words[n..count]);
+        if got == 0 {
+            return 0;
+        }
+        n += got;
+    }
+    n
+}
+
+// What the image says. Its words are needed no longer than here.
+fn open_image(
+    from: i32,
+    buf: &mut [u8],
+    lengths: &mut [usize; 32],
+    multipliers: &mut [f64; 5376],
+) -> Parts
+    requires { ⌜ 4 ≤ length (now buf) ⌝ }
+    ensures { λ r. ⌜ (r .fault ≡ 0 → Accepted r (now (lengths .exit)) (now (multipliers .exit))) ⌝ }
+{
+    let mut words = no_words();
+    let head = io::read_full(from, &mut buf[..4]);
+    let count = driver_image::image_words(&buf[..head]);
+    let n = read_words(from, buf, &mut words, count);
+    image::decode_into(&words[..n], lengths, multipliers)
+}
+
+// The tables of what the image says, laid out once.
+fn tables_of(parts: Parts, lengths: [usize; 32]) -> Tables
+    requires { ⌜ PartsInside (parts .counts) (parts .links) (parts .controls) ⌝ }
+    ensures { λ r. ⌜ LaidFrom (parts .options) (parts .counts) lengths (parts .nodes) (parts .links) (parts .controls) r ⌝ }
+{
+    let options = parts.options;
+    let counts = parts.counts;
+    let nodes = parts.nodes;
+    let links = parts.links;
+    let controls = parts.controls;
+    lay_out(options, counts, lengths, nodes, links, controls)
+}
+
+// Its state at the start.
+fn start_of(parts: Parts) -> State
+    requires { ⌜ parts .counts .nodes ≤ 256 ⌝ }
+    requires { ⌜ parts .counts .links ≤ 384 ⌝ }
+    ensures { λ r. ⌜ r ≡ startFrom (parts .nodes) (parts .counts .nodes) (parts .links) (parts .counts .links) ⌝ }
+{
+    let counts = parts.counts;
+    let nodes = parts.nodes;
+    let links = parts.links;
+    start_from(nodes, counts.nodes, links, counts.links)
+}
+
+// The image, the header, and the run from the start.
+fn drive_slices(input: &mut [u8], out: &mut [u8], from: i32, to: i32)
+    requires { ⌜ 4 ≤ length (now input) ⌝ }
+    requires { ⌜ 22 ≤ length (now out) ⌝ }
+{
+    let mut lengths = no_lengths();
+    let mut multipliers = no_multipliers();
+    let parts = open_image(from, input, &mut lengths, &mut multipliers);
+    let fault = parts.fault;
+    if fault != 0 {
+        refuse(fault, out, to);
+        return;
+    }
+    let h = listing::put_header(out, 0);
+    io::write_all(to, &out[..h]);
+    let t = tables_of(parts, lengths);
+    let start = start_of(parts);
+    run(t, &multipliers, start, input, out, from, to);
+}
+
+// Room for a load, of which none has more than 5,124 bytes, or for a chunk's lines.
+pub fn buffer() -> [u8; 8192] {
     [0; 8192]
 }
 
 // The same with buffers of a fixed size, so that nothing is asked of the caller.
-pub fn drive(input: &mut [u8; 65536], out: &mut [u8; 8192], from: i32, to: i32) {
+pub fn drive(input: &mut [u8; 8192], out: &mut [u8; 8192], from: i32, to: i32) {
     drive_slices(input, out, from, to);
 }
