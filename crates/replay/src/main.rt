@@ -3,9 +3,9 @@ use libc::STDIN_FILENO;
 use libc::STDOUT_FILENO;
 
 fn main() {
-    let mut table = [0u32; 16384];
+    let mut table = replay_io::call_space();
     let mut bytes = io::large_buffer();
-    let mut out = io::large_buffer();
+    let mut out = replay_io::line_space();
     replay_io::transcribe(
         STDIN_FILENO,
         STDOUT_FILENO,

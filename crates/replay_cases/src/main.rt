@@ -30,9 +30,9 @@ fn run_all(table: &mut [u32], bytes: &mut [u8], out: &mut [u8]) -> u32 {
 }
 
 fn main() {
-    let mut table = [0u32; 16384];
+    let mut table = replay_io::call_space();
     let mut bytes = io::large_buffer();
-    let mut out = io::large_buffer();
+    let mut out = replay_io::line_space();
     let n = run_all(&mut table, &mut bytes, &mut out);
     io::print_decimal(STDOUT_FILENO, n as u64);
     io::write_all(STDOUT_FILENO, b" cases\n");

@@ -1,4 +1,5 @@
 // The run of a list that comes in by a descriptor.
+use image::Decoded;
 use list_words::call_ok;
 use model::*;
 use replay_input::read_bytes;
@@ -56,36 +57,44 @@ fn replay_calls(
     }
 }
 
-// The start of an accepted project, the count of calls, and the calls.
-fn replay_project(
-    from: i32,
-    to: i32,
-    p: Project,
-    table: &mut [u32],
-    bytes: &mut [u8],
-    out: &mut [u8],
-) {
-    let started = calls::new_with_initial_values(p);
-    let state = started.state;
-    let n = put_start_line(out, p.counts, state);
-    write(to, out, n);
-    if !read_bytes(from, bytes, 0, 4) {
-        refuse(to, out, BAD_LIST);
-        return;
-    }
-    let calls = words::word_at(bytes, 0);
-    replay_calls(from, to, p, state, calls, table, bytes, out);
+fn no_words() -> [u32; 16384] {
+    [0; 16384]
 }
 
-// Reads an image and a list of calls, and prints the transcript.
+// What the image says. Its words are needed no longer than here.
+fn open_image(from: i32, bytes: &mut [u8]) -> Decoded {
+    let mut words = no_words();
+    let n = read_image(from, bytes, &mut words);
+    image::decode(&words[..n])
+}
+
+// Room for the words of a call: a load has a code, a count, and at most 1,282 words, with which the longest is refused.
+pub fn call_space() -> [u32; 1284] {
+    [0; 1284]
+}
+
+// Room for a line: the longest state is 1,922 words of 17 bytes, and an answer has fewer than 30.
+pub fn line_space() -> [u8; 32768] {
+    [0; 32768]
+}
+
+// Reads an image and a list of calls, and prints the transcript: the start, and each call in turn. The table is for the words of a call.
 pub fn transcribe(from: i32, to: i32, table: &mut [u32], bytes: &mut [u8], out: &mut [u8]) {
-    let n = read_image(from, bytes, table);
-    let read = image::decode(&table[..n]);
+    let read = open_image(from, bytes);
     let fault = read.fault;
     let project = read.project;
     if fault != 0 {
         refuse(to, out, fault);
         return;
     }
-    replay_project(from, to, project, table, bytes, out);
+    let started = calls::new_with_initial_values(project);
+    let state = started.state;
+    let n = put_start_line(out, project.counts, state);
+    write(to, out, n);
+    if !read_bytes(from, bytes, 0, 4) {
+        refuse(to, out, BAD_LIST);
+        return;
+    }
+    let calls = words::word_at(bytes, 0);
+    replay_calls(from, to, project, state, calls, table, bytes, out);
 }
