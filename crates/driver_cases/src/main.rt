@@ -4,7 +4,7 @@ use case_names::case_name;
 use libc::STDOUT_FILENO;
 
 // Runs case i, and answers whether there is one.
-fn run_case(i: u32, input: &mut [u8; 8192], out: &mut [u8; 8192]) -> bool {
+fn run_case(i: u32, input: &mut [u8; 16384], out: &mut [u8; 8192]) -> bool {
     let name = case_name(i);
     let fd = os::open_read(&name);
     if fd < 0 {
@@ -18,7 +18,7 @@ fn run_case(i: u32, input: &mut [u8; 8192], out: &mut [u8; 8192]) -> bool {
 }
 
 // Runs the cases up to the first number that has none, and answers how many they are.
-fn run_all(input: &mut [u8; 8192], out: &mut [u8; 8192]) -> u32 {
+fn run_all(input: &mut [u8; 16384], out: &mut [u8; 8192]) -> u32 {
     let mut i = 0;
     while i < 1000 {
         if !run_case(i, input, out) {
@@ -30,8 +30,8 @@ fn run_all(input: &mut [u8; 8192], out: &mut [u8; 8192]) -> u32 {
 }
 
 fn main() {
-    let mut input = driver_io::buffer();
-    let mut out = driver_io::buffer();
+    let mut input = driver_io::load_buffer();
+    let mut out = driver_io::line_buffer();
     let n = run_all(&mut input, &mut out);
     io::print_decimal(STDOUT_FILENO, n as u64);
     io::write_all(STDOUT_FILENO, b" cases\n");

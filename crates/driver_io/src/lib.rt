@@ -233,12 +233,17 @@ fn drive_slices(input: &mut [u8], out: &mut [u8], from: i32, to: i32)
     run(t, &multipliers, start, input, out, from, to);
 }
 
-// Room for a load, of which none has more than 5,124 bytes, or for a chunk's lines.
-pub fn buffer() -> [u8; 8192] {
+// Room for loads, of which none has more than 5,124 bytes: the more of them come in one chunk, the less is handed over for each.
+pub fn load_buffer() -> [u8; 16384] {
+    [0; 16384]
+}
+
+// Room for a chunk's lines.
+pub fn line_buffer() -> [u8; 8192] {
     [0; 8192]
 }
 
 // The same with buffers of a fixed size, so that nothing is asked of the caller.
-pub fn drive(input: &mut [u8; 8192], out: &mut [u8; 8192], from: i32, to: i32) {
+pub fn drive(input: &mut [u8; 16384], out: &mut [u8; 8192], from: i32, to: i32) {
     drive_slices(input, out, from, to);
 }
