@@ -1,6 +1,7 @@
 // `control.rs` for one control, with the node that it watches and the link that it sets.
 ghost use mathlib.Core.Path.{_≡_};
 ghost use Rattle.control.specs.Controls.{watched, above, isActive, activate, levelTime, candidate};
+ghost use Rattle.control.specs.Named.{conditionTarget, conditionSeconds};
 use clock::clock_candidate;
 use clock::time_candidate;
 use model::*;
@@ -27,6 +28,34 @@ pub fn watched(condition: ControlCondition) -> usize
         ControlCondition::LowLevel { tank, target: _ } => tank,
         ControlCondition::Time { seconds: _ } => 0,
         ControlCondition::ClockTime { seconds: _ } => 0,
+    }
+}
+
+// The target that a condition names; 0 where it names none.
+pub fn condition_target(condition: ControlCondition) -> f64
+    ensures { λ r. ⌜ r ≡ conditionTarget condition ⌝ }
+{
+    match condition {
+        ControlCondition::HighPressure { node: _, target } => target,
+        ControlCondition::LowPressure { node: _, target } => target,
+        ControlCondition::HighLevel { tank: _, target } => target,
+        ControlCondition::LowLevel { tank: _, target } => target,
+        ControlCondition::Time { seconds: _ } => 0.0,
+        ControlCondition::ClockTime { seconds: _ } => 0.0,
+    }
+}
+
+// The seconds that a condition names; 0 where it names none.
+pub fn condition_seconds(condition: ControlCondition) -> u32
+    ensures { λ r. ⌜ r ≡ conditionSeconds condition ⌝ }
+{
+    match condition {
+        ControlCondition::HighPressure { node: _, target: _ } => 0,
+        ControlCondition::LowPressure { node: _, target: _ } => 0,
+        ControlCondition::HighLevel { tank: _, target: _ } => 0,
+        ControlCondition::LowLevel { tank: _, target: _ } => 0,
+        ControlCondition::Time { seconds } => seconds,
+        ControlCondition::ClockTime { seconds } => seconds,
     }
 }
 

@@ -49,6 +49,7 @@ use Rattle.driver_chunk.proofs.Turning.{known}
 pub record Begins (p : Project) (s : State) (t : Tables) (multipliers : List Float) (a : Lists) : Type 0 where
   pub laid : Laid p t
   pub same : multipliers ≡ p .multipliers
+  pub whole : length multipliers ≡ 5376
   pub ordered : inOrder p s ≡ true
   pub held : a ≡ listsOf s
   pub nodes : length (s .nodes) ≡ 256
@@ -186,7 +187,7 @@ module _ {p : Project} {s : State} {t : Tables} {multipliers : List Float} {a₀
             → end ≡ text.after after written (lineText (Line.refused (r .fault))) → later ≡ text.put after written (lineText (Line.refused (r .fault)))
             → TurnsRan p s input whole-input before later (record { state = st; used = used; written = end; over = true; wants = wants })
         turns-refused z {st} q {end} {later} u v =
-            let made = made-refused (b .laid) (b .same) now a table long in-force (g .meets) soon patterns controls-are _ loaded z current-is in
+            let made = made-refused (b .laid) (b .same) (b .whole) now a table long in-force (g .meets) soon patterns controls-are _ loaded z current-is in
             rw (packed-is st (made .next) q (made .met .held)) (ended (made .next) (Line.refused (r .fault)) (on-rest (made .turned)) u v)
 
         module _ (z : r .fault ≡ 0) {statuses : List ℕ} {demands heads : List Float} {seconds : ℕ}
@@ -202,7 +203,7 @@ module _ {p : Project} {s : State} {t : Tables} {multipliers : List Float} {a₀
           arrays = record { heads = heads; demands = demands; demand-flows = w .flows; links = record { flows = x .flows; statuses = statuses; settings = l .settings }; clock = clock }
 
           made : MadeBy p now (take (length input - used) (drop used input)) arrays current (r .taken) (Line.step (a .clock .instant) seconds) false
-          made = rw ticks (made-step (b .laid) (b .same) now a table long in-force (g .meets) soon patterns controls-are _ loaded z closes sums lasts moves current-is)
+          made = rw ticks (made-step (b .laid) (b .same) (b .whole) now a table long in-force (g .meets) soon patterns controls-are _ loaded z closes sums lasts moves current-is)
 
           done : TurnedAs (turn p now (drop used input)) written after later (record { state = made .next; taken = r .taken; at = end; last = false })
           done = turned-as (on-rest (made .turned)) (stepped-as room (made .next) (r .taken) (Line.step (a .clock .instant) seconds) placed put)

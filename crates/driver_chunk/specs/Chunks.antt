@@ -45,11 +45,12 @@ pub record TurnsRan (p : Project) (s : State) (input : List ℕ) (whole : Bool) 
   pub goes : r .over ≡ false → 22 ≤ length before → (s .clock .instant < r .state .clock .instant) ⊎ ((r .wants ≡ 0 → ⊥) × (s .clock .instant ≡ r .state .clock .instant))
   pub moves : r .over ≡ false → 22 ≤ length before → (whole ≡ true) ⊎ (loadBytes p ≤ length input) → s .clock .instant < r .state .clock .instant
 
--- what a chunk asks: a project, in order with the state, whose tables and multipliers they are
+-- what a chunk asks: a project, in order with the state, whose tables and multipliers they are, the table of multipliers whole
 pub record RunOf (t : Tables) (multipliers : List Float) (s : State) : Type 0 where
   pub project : Project
   pub laid : Laid project t
   pub same : multipliers ≡ project .multipliers
+  pub whole : length multipliers ≡ 5376
   pub ordered : inOrder project s ≡ true
 
 -- and what it promises of every such project

@@ -4,6 +4,7 @@ use mathlib.Core.Path.{_≡_, refl, sym, ap, _∙_, subst}
 use mathlib.Core.Bool.{true}
 use mathlib.Core.List.{List}
 use lib.Ieee.{Float}
+use lib.ListN.{length}
 use Rattle.model.specs.declared.project.Counts.{Counts}
 use Rattle.model.specs.declared.project.Project.{Project}
 use Rattle.model.specs.declared.state.State.{State}
@@ -14,7 +15,7 @@ use Rattle.tables.proofs.Fits.{tables-fit}
 use Rattle.image.specs.Image.{decode}
 use Rattle.image.specs.Parts.{partsOf}
 use Rattle.image.specs.declared.parts.Parts.{Parts}
-use Rattle.image_accepted.proofs.Accepted.{accepted}
+use Rattle.image_accepted.proofs.Accepted.{accepted, accepted-long}
 use Rattle.state.specs.Start.{newWithInitialValues, startNodes, startLinks}
 use Rattle.state.specs.Starting.{nodesStarted, linksStarted, startFrom}
 use Rattle.state.proofs.Inside.{controls-inside}
@@ -41,6 +42,7 @@ opened words {parts} {lengths} {multipliers} e l m z = record {
     controls-are = sym (ap (λ (x : Parts). x .controls) e);
   };
   same = m;
+  whole = ap (λ (ms : List Float). length ms) m ∙ accepted-long words (sym (ap (λ (x : Parts). x .fault) e) ∙ z);
 }
 
 -- the start by the parts is the project's
@@ -75,5 +77,6 @@ module _ {parts : Parts} {lengths : List ℕ} {multipliers : List Float} (a : Ac
     project = a .project;
     laid = laid (a .project) (a .from) fits;
     same = a .same;
+    whole = a .whole;
     ordered = subst (λ (x : State). inOrder (a .project) x ≡ true) (sym (e ∙ rw (← a .from .nodes-are, ← a .from .counts, ← a .from .links-are) (start-is (a .project)))) (in-order-at-start (a .project) (a .tables));
   }

@@ -94,7 +94,7 @@ module _ {t : Tables} {multipliers : List Float} {s : State} (q : RunOf t multip
 
   -- the state after it is one to go on from
   pub run-on : RunOf t multipliers (r .state)
-  run-on = record { project = q .project; laid = q .laid; same = q .same; ordered = ran-by .ordered }
+  run-on = record { project = q .project; laid = q .laid; same = q .same; whole = q .whole; ordered = ran-by .ordered }
 
   pub less-by : (wants : ℕ) → (wants ≡ 0) ⊎ (loadSize t ≤ wants) → ((wants ≡ 0 → ⊥) → (whole ≡ true) ⊎ (wants ≤ length input)) → 22 ≤ length before
       → left (r .over) (t .options .duration) (r .state .clock .instant) (r .wants) < left false (t .options .duration) (s .clock .instant) wants

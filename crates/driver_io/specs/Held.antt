@@ -25,3 +25,4 @@ pub record Accepted (parts : Parts) (lengths : List ℕ) (multipliers : List Flo
   pub tables : tablesOk project ≡ true
   pub from : From project (parts .options) (parts .counts) lengths (parts .nodes) (parts .links) (parts .controls)
   pub same : multipliers ≡ project .multipliers
+  pub whole : length multipliers ≡ 5376

@@ -8,7 +8,8 @@ use Rattle.tables.specs.Fit.{TablesFit}
 use Rattle.state.proofs.Controlled.{rows-inside}
 use Rattle.load.proofs.ByTable.{junctions-inside, links-inside}
 use Rattle.load.proofs.Values.{values-are, values-most-fit}
-use Rattle.solver.proofs.ByTable.{groups-inside, tanks-inside}
+use Rattle.solver.proofs.ByTable.{groups-inside}
+use Rattle.run_tables.proofs.Inside.{tanks-inside}
 use Rattle.tank_links.proofs.Judging.{stands}
 use Rattle.run_candidates.proofs.Listing.{times, clocks, laid-few}
 use Rattle.run_candidates.proofs.Standing.{levels-inside, levels-laid-few}
@@ -22,10 +23,10 @@ pub tables-inside : {p : Project} {t : Tables} → Laid p t → TablesFit p → 
 tables-inside {p} {t} laid fit = record {
   demands = subst (DemandsInside (t .demands .counts) (t .demands .patterns)) (sym (laid .nodes)) (demands-inside (laid .demands) (fit .few .nodes));
   heads = heads-inside (laid .heads) (fit .few .nodes);
-  tanks = tanks-inside fit (laid .tanks);
+  tanks = tanks-inside (laid .tanks) (fit .few .nodes);
   groups = groups-inside fit (laid .tanks) (stands p (t .groups .begins) (t .groups .middles) (t .groups .links) (laid .groups));
   rows = rows-inside fit (laid .controls);
-  levels = levels-inside (laid .levels) (tanks-inside fit (laid .tanks));
+  levels = levels-inside (laid .levels) (tanks-inside (laid .tanks) (fit .few .nodes));
   levels-few = omega (arith, fit .few .controls, levels-laid-few (p .controls) (p .counts .controls) (t .tanks .nodes) (t .tanks .count) (laid .levels));
   times-few = omega (arith, fit .few .controls, laid-few times (p .controls) (p .counts .controls) (laid .time-calls));
   clocks-few = omega (arith, fit .few .controls, laid-few clocks (p .controls) (p .counts .controls) (laid .clock-calls));

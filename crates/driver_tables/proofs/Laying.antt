@@ -23,7 +23,7 @@ use Rattle.solver.proofs.ByTable.{laid-is}
 use Rattle.run_tables.specs.Chosen.{chosen}
 use Rattle.run_tables.specs.Held.{Pushed, TanksLaid}
 use Rattle.run_tables.specs.declared.tanks.TankTable.{TankTable}
-use Rattle.run_tables.proofs.Inside.{inside, distinct, laid-pushed}
+use Rattle.run_tables.proofs.Inside.{tanks-inside, tanks-distinct}
 use Rattle.run_controls.specs.Rows.{RowsLaid}
 use Rattle.run_controls.specs.declared.rows.ControlTable.{ControlTable}
 use Rattle.run_candidates.specs.Calls as calls
@@ -31,6 +31,7 @@ use Rattle.run_candidates.specs.Levels.{LevelsLaid}
 use Rattle.run_candidates.specs.Triggers.{triggersIn}
 use Rattle.run_candidates.specs.declared.levels.Levels.{Levels}
 use Rattle.run_candidates.specs.declared.times.Seconds.{Seconds}
+use Rattle.run_sources.specs.Lengths.{LengthsLaid}
 use Rattle.run_sources.specs.Sources.{DemandsLaid, HeadsLaid}
 use Rattle.run_sources.specs.declared.demands.DemandTable.{DemandTable}
 use Rattle.run_sources.specs.declared.heads.HeadTable.{HeadTable}
@@ -67,11 +68,11 @@ grouped table count nodes n b m l x y z = record {
 -- what laying the links out asks of the tanks' nodes
 pub groups-asked : {c : Counts} {nodes : List Node} {links : List Link} {controls : List Control} {tanks : TankTable} → PartsInside c links controls
     → TanksLaid nodes (c .nodes) (tanks .nodes) (tanks .numbers) (tanks .overflows) (tanks .count) → GroupsAsked links (c .links) (tanks .nodes) (tanks .count)
-groups-asked h laid = record { ends = h .ends; tanks = inside (laid-pushed laid) (h .few .nodes); distinct = distinct (laid-pushed laid) }
+groups-asked h laid = record { ends = h .ends; tanks = tanks-inside laid (h .few .nodes); distinct = tanks-distinct laid }
 
 module _ {o : Options} {c : Counts} {lengths : List ℕ} {nodes : List Node} {links : List Link} {controls : List Control}
     {tanks : TankTable} {groups : LinkGroups} {rows : ControlTable} {times clocks : Seconds} {levels : Levels} {demands : DemandTable} {heads : HeadTable}
-    {junctions : JunctionNodes} {ends : LinkEnds} {marks : List ℕ} {fast : Bool} {step-times : Times}
+    {words : List ℕ} {junctions : JunctionNodes} {ends : LinkEnds} {marks : List ℕ} {fast : Bool} {step-times : Times}
     (t : TanksLaid nodes (c .nodes) (tanks .nodes) (tanks .numbers) (tanks .overflows) (tanks .count))
     (g : Grouped links (c .links) (tanks .nodes) (tanks .count) groups)
     (r : RowsLaid controls (c .controls) nodes links (rows .words) (rows .numbers) (rows .count))
@@ -80,6 +81,7 @@ module _ {o : Options} {c : Counts} {lengths : List ℕ} {nodes : List Node} {li
     (l : LevelsLaid controls (c .controls) (tanks .nodes) (tanks .count) (levels .tanks) (levels .targets) (levels .count))
     (d : DemandsLaid nodes (c .nodes) (o .«default_pattern») (demands .counts) (demands .bases) (demands .patterns))
     (h : HeadsLaid nodes (c .nodes) (heads .nodes) (heads .elevations) (heads .patterns) (heads .count))
+    (w : LengthsLaid lengths words)
     (j : Pushed (junctionIn nodes) (c .nodes) (junctions .nodes) (junctions .count))
     (e : EndsLaid links (c .links) (ends .starts) (ends .ends))
     (m : MarksLaid nodes (c .nodes) marks)
@@ -113,7 +115,7 @@ module _ {o : Options} {c : Counts} {lengths : List ℕ} {nodes : List Node} {li
     times = step-times;
     nodes = c .nodes;
     links = c .links;
-    lengths = lengths;
+    lengths = words;
     tanks = tanks;
     groups = groups;
     controls = rows;
@@ -131,7 +133,7 @@ module _ {o : Options} {c : Counts} {lengths : List ℕ} {nodes : List Node} {li
     times = times-there from;
     nodes = rw (from .counts);
     links = rw (from .counts);
-    lengths = sym (from .lengths-are);
+    lengths = rw (from .lengths-are) w;
     tanks = tanks-there from;
     groups = laid-is fit (tanks-there from) _ _ _ refl refl refl (rw (from .links-are, from .counts) (g .begins)) (rw (from .links-are, from .counts) (g .middles)) (rw (from .links-are, from .counts) (g .links));
     controls = rw (from .controls-are, from .counts, from .nodes-are, from .links-are) r;

@@ -19,6 +19,7 @@ use Rattle.run_controls.specs.Rows.{ControlsInside, RowsInside, RowsLaid}
 use Rattle.run_candidates.specs.Calls as calls
 use Rattle.run_candidates.specs.Levels.{LevelsLaid, LevelsInside}
 use Rattle.run_candidates.specs.Triggers.{triggersIn}
+use Rattle.run_sources.specs.Lengths.{LengthsLaid}
 use Rattle.run_sources.specs.Sources.{DemandsLaid, HeadsLaid, DemandsInside, HeadsInside}
 use Rattle.run_tanks.specs.Closing.{GroupsInside}
 use Rattle.run_loads.specs.Taking.{JunctionsInside, LinksInside}
@@ -61,7 +62,7 @@ pub record Laid (p : Project) (t : Tables) : Type 0 where
   pub times : t .times ≡ timesOf p
   pub nodes : t .nodes ≡ p .counts .nodes
   pub links : t .links ≡ p .counts .links
-  pub lengths : t .lengths ≡ p .lengths
+  pub lengths : LengthsLaid (p .lengths) (t .lengths)
   pub tanks : TanksLaid (p .nodes) (p .counts .nodes) (t .tanks .nodes) (t .tanks .numbers) (t .tanks .overflows) (t .tanks .count)
   pub groups : isLaidOut p (t .groups .begins) (t .groups .middles) (t .groups .links) ≡ true
   pub controls : RowsLaid (p .controls) (p .counts .controls) (p .nodes) (p .links) (t .controls .words) (t .controls .numbers) (t .controls .count)

@@ -21,6 +21,7 @@ use run_sources::DemandTable;
 use run_sources::HeadTable;
 use run_sources::demand_table;
 use run_sources::head_table;
+use run_sources::pattern_lengths;
 use run_tables::TankTable;
 use run_tables::tank_table;
 use simulation::times_from;
@@ -43,7 +44,7 @@ pub struct Tables {
     pub times: Times,
     pub nodes: usize,
     pub links: usize,
-    pub lengths: [usize; 32],
+    pub lengths: [u32; 32],
     pub tanks: TankTable,
     pub groups: LinkGroups,
     pub controls: ControlTable,
@@ -112,6 +113,7 @@ pub fn lay_out(
     let levels = level_calls(controls, c, &tanks.nodes, tanks.count);
     let demands = demand_table(nodes, n, default);
     let heads = head_table(nodes, n);
+    let words = pattern_lengths(lengths);
     let junctions = junction_nodes(nodes, n);
     let ends = link_ends(links, m);
     let marks = tank_marks(nodes, n);
@@ -121,7 +123,7 @@ pub fn lay_out(
         times: step_times,
         nodes: n,
         links: m,
-        lengths: lengths,
+        lengths: words,
         tanks: tanks,
         groups: groups,
         controls: rows,

@@ -111,11 +111,12 @@ module _ {p : Project} {t : Tables} (laid : Laid p t) (fit : TablesFit p) where
   hour-is k s e = rw (laid .times, start-is p, e)
 
   -- ---- patterns, then controls
-  module _ {multipliers : List Float} (same : multipliers ≡ p .multipliers) where
+  module _ {multipliers : List Float} (same : multipliers ≡ p .multipliers) (whole : length multipliers ≡ 5376) where
     inputs-laid : InputsLaid p (inputsOf t multipliers)
     inputs-laid = record {
       lengths = laid .lengths;
       multipliers = same;
+      long = ap (λ (ms : List Float). length ms) (sym same) ∙ whole;
       start = ap (λ (o : Options). o .«pattern_start») (laid .options);
       timestep = ap (λ (o : Options). o .pattern) (laid .options);
       scale = ap (λ (o : Options). o .«demand_multiplier») (laid .options);

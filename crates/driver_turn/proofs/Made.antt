@@ -85,7 +85,7 @@ pub record MadeBy (p : Project) (s : State) (bytes : List ℕ) (a : Lists) (in-f
   pub turned : turn p s bytes ≡ record { state = next; taken = taken; line = line; last = last }
   pub met : Meets p next a in-force
 
-module _ {p : Project} {t : Tables} (laid : Laid p t) {multipliers : List Float} (same : multipliers ≡ p .multipliers)
+module _ {p : Project} {t : Tables} (laid : Laid p t) {multipliers : List Float} (same : multipliers ≡ p .multipliers) (whole : length multipliers ≡ 5376)
     (s : State) (a : Lists) (table : List Float) (long : length table ≡ 33) (in-force : ℕ) (m : Meets p s a in-force) (before : s .clock .instant < p .options .duration)
     {w : Written} {l : Links}
     (patterns : patternsApplied (inputsOf t multipliers) (t .tanks .nodes) (t .tanks .count) in-force (a .clock .instant) (record { table = table; heads = a .heads; demands = a .demands; flows = a .demand-flows }) ≡ w)
@@ -100,7 +100,7 @@ module _ {p : Project} {t : Tables} (laid : Laid p t) {multipliers : List Float}
   room = omega (arith, fits .few .nodes, m .nodes)
 
   ready-held : prepared-arrays a w l ≡ listsOf ready
-  ready-held = controlled-lists laid fits s a w (m .held) (patterned-lists laid fits same s a table in-force (m .held) long room (m .force) patterns) controls
+  ready-held = controlled-lists laid fits s a w (m .held) (patterned-lists laid fits same whole s a table in-force (m .held) long room (m .force) patterns) controls
 
   ready-is : prepared p s ≡ ready
   ready-is = prepared-inner p s (m .ordered)

@@ -25,7 +25,7 @@ use Rattle.image_accepted.proofs.Placing.{Kept, empty-kept, placed-kept
 
 -- where there is no fault, the tables pass
 abbrev Passes : Decoded → Type 0
-Passes d = d .fault ≡ 0 → tablesOk (d .project) ≡ true
+Passes d = d .fault ≡ 0 → (tablesOk (d .project) ≡ true) × (length (d .project .multipliers) ≡ 5376)
 
 refused-passes : (n : ℕ) → (n ≡ 0 → ⊥) → Passes (refused n)
 unfolding refused
@@ -36,7 +36,7 @@ unfolding finished tablesOk
 finished-passes t k o = go (patternIndexOk (t .counts .patterns) (t .options .«default_pattern»)) refl
   where
     go : (b : Bool) → patternIndexOk (t .counts .patterns) (t .options .«default_pattern») ≡ b → Passes (cond b (record { fault = 0; project = t }) (refused 6))
-    go true i e = unfold tablesOk in rw (counts-of-few (t .counts) (k .few), o, i, k .patterns, k .nodes, k .links, k .controls, k .premises)
+    go true i e = (unfold tablesOk in rw (counts-of-few (t .counts) (k .few), o, i, k .patterns, k .nodes, k .links, k .controls, k .premises), k .long-multipliers)
     go false i e = refused-passes 6 (λ z. omega arith) e
 
 -- after a record that is taken the stage is past the start
@@ -87,7 +87,11 @@ decode-passes (w ∷ ws) = go (leb 1 (length (w ∷ ws)) && leb (length (w ∷ w
 
 -- "an accepted image's tables" break none of 4 to 6
 pub accepted : (ws : List ℕ) → decode ws .fault ≡ 0 → tablesOk (decode ws .project) ≡ true
-accepted ws e = decode-passes ws e
+accepted ws e = decode-passes ws e .0
+
+-- their table of multipliers is whole
+pub accepted-long : (ws : List ℕ) → decode ws .fault ≡ 0 → length (decode ws .project .multipliers) ≡ 5376
+accepted-long ws e = decode-passes ws e .1
 
 -- and so they have all that acceptance means
 pub accepted-fit : (ws : List ℕ) → decode ws .fault ≡ 0 → TablesFit (decode ws .project)

@@ -12,8 +12,7 @@ use Rattle.run_loads.specs.Laid.{junctionIn, EndsLaid, MarksLaid}
 use Rattle.run_loads.specs.Taking.{JunctionsInside, LinksInside, flowsTaken, headsTaken, inflowsSummed}
 use Rattle.run_state.specs.Lists.{Lists, Links, headsOf, demandsOf, demandFlowsOf, flowsOf, statusesOf, settingsOf, listsOf, NodesHold, LinksHold}
 use Rattle.run_state.proofs.Apart.{same-state, packed}
-use Rattle.run_tables.specs.Held.{Pushed, TanksInside, TanksLaid}
-use Rattle.run_tables.proofs.Inside.{inside, laid-pushed}
+use Rattle.run_tables.specs.Held.{Pushed, TanksLaid}
 use Rattle.run_tables.proofs.TankRows.{pushed-at}
 use Rattle.run_tanks.specs.Emptying.{tanksEmptied}
 use Rattle.tables.specs.Fit.{TablesFit}
@@ -37,9 +36,6 @@ module _ {p : Project} (fit : TablesFit p) where
     start = λ k l. omega (arith, fit .few .nodes, laid .start k l, fit .link k l .start);
     end = λ k l. omega (arith, fit .few .nodes, laid .end k l, fit .link k l .end);
   }
-
-  pub tanks-inside : {nodes : List ℕ} {numbers : List Float} {overflows : List ℕ} {n : ℕ} → TanksLaid (p .nodes) (p .counts .nodes) nodes numbers overflows n → TanksInside nodes n
-  tanks-inside laid = inside (laid-pushed laid) (fit .few .nodes)
 
 -- ---- the lists
 made : {h h' d d' f f' : List Float} {a a' : Links} {k k' : Clock} → h ≡ h' → d ≡ d' → f ≡ f' → a ≡ a' → k ≡ k'

@@ -10,11 +10,12 @@ use lib.ListN.{getD, set, length, length-set, length-append, List·getD-append}
 use lib.Seq.{getD-set-same, getD-set-other, getD-append-seam}
 use Rattle.clock.specs.Triggers.{Trigger, atTime, atClock, atLevel, untimed}
 use Rattle.control.specs.Controls.{Level, triggerOf}
+use Rattle.control.specs.Named.{conditionSeconds}
 use Rattle.model.specs.Blank.{blankControl}
 use Rattle.model.specs.declared.control.Control.{Control}
 use Rattle.model.specs.declared.control.ControlCondition.{ControlCondition}
 use Rattle.model.specs.declared.control.ControlCondition.the-variants.{HighPressure, LowPressure, HighLevel, LowLevel, Time, ClockTime}
-use Rattle.run_candidates.specs.Calls.{secondsOf, timesAt, clocksAt, timesIn, clocksIn, Laid}
+use Rattle.run_candidates.specs.Calls.{timesAt, clocksAt, timesIn, clocksIn, Laid}
 use Rattle.run_candidates.specs.Triggers.{listed, triggerIn, triggersIn}
 
 -- one entry more, or none
@@ -47,7 +48,7 @@ pub record Kind (in-list : List (Trigger Level) → List ℕ) (of : ControlCondi
   pub none : in-list [] ≡ []
   pub last : (ts : List (Trigger Level)) (t : Trigger Level) → in-list (ts ++ (t ∷ [])) ≡ in-list ts ++ in-list (t ∷ [])
   pub alone : (c : ControlCondition) → in-list (triggerOf c ∷ []) ≡ of c
-  pub one : (c : ControlCondition) → (of c ≡ []) ⊎ (of c ≡ secondsOf c ∷ [])
+  pub one : (c : ControlCondition) → (of c ≡ []) ⊎ (of c ≡ conditionSeconds c ∷ [])
 
 times-last : (ts : List (Trigger Level)) (t : Trigger Level) → timesIn (ts ++ (t ∷ [])) ≡ timesIn ts ++ timesIn (t ∷ [])
 unfolding timesIn
@@ -66,7 +67,7 @@ times-alone (LowLevel n x) = refl
 times-alone (Time s) = refl
 times-alone (ClockTime s) = refl
 
-times-one : (c : ControlCondition) → (timesAt c ≡ []) ⊎ (timesAt c ≡ secondsOf c ∷ [])
+times-one : (c : ControlCondition) → (timesAt c ≡ []) ⊎ (timesAt c ≡ conditionSeconds c ∷ [])
 times-one (HighPressure n x) = inl refl
 times-one (LowPressure n x) = inl refl
 times-one (HighLevel n x) = inl refl
@@ -95,7 +96,7 @@ clocks-alone (LowLevel n x) = refl
 clocks-alone (Time s) = refl
 clocks-alone (ClockTime s) = refl
 
-clocks-one : (c : ControlCondition) → (clocksAt c ≡ []) ⊎ (clocksAt c ≡ secondsOf c ∷ [])
+clocks-one : (c : ControlCondition) → (clocksAt c ≡ []) ⊎ (clocksAt c ≡ conditionSeconds c ∷ [])
 clocks-one (HighPressure n x) = inl refl
 clocks-one (LowPressure n x) = inl refl
 clocks-one (HighLevel n x) = inl refl
@@ -130,7 +131,7 @@ module _ {in-list : List (Trigger Level) → List ℕ} {of : ControlCondition �
   }
 
   pub list-put : {i : ℕ} {array : List ℕ} {count next x : ℕ} → Listing in-list controls n i array count → n ≤ 64 → i < n
-      → x ≡ secondsOf (conditionIn controls i) → next ≡ count + length (of (conditionIn controls i))
+      → x ≡ conditionSeconds (conditionIn controls i) → next ≡ count + length (of (conditionIn controls i))
       → Listing in-list controls n (i + 1) (set array count x) next
   unfolding listed
   list-put {i} {array} {count} {next} {x} h m l a e = record {

@@ -14,6 +14,7 @@ use lib.ListN.{getD, set, length, length-set, length-append, List·getD-append}
 use lib.Seq.{getD-set-same, getD-set-other, getD-append-seam}
 use Rattle.clock.specs.Triggers.{Trigger, atTime, atClock, atLevel, untimed}
 use Rattle.control.specs.Controls.{Level, watched, triggerOf}
+use Rattle.control.specs.Named.{conditionTarget}
 use Rattle.model.specs.declared.control.Control.{Control}
 use Rattle.model.specs.declared.control.ControlCondition.{ControlCondition}
 use Rattle.model.specs.declared.control.ControlCondition.the-variants.{HighPressure, LowPressure, HighLevel, LowLevel, Time, ClockTime}
@@ -23,7 +24,7 @@ use Rattle.run_tables.specs.Chosen.{chosen}
 use Rattle.run_tables.specs.Held.{TanksInside, TanksLaid}
 use Rattle.run_tables.specs.Tanks.{tankIn, tankNodesIn}
 use Rattle.run_candidates.specs.Calls.{levelsIn}
-use Rattle.run_candidates.specs.Levels.{targetOf, levelsAt, standsAt, Numbered, levelsOf, noLevel, LevelsHeld, LevelsLaid, LevelsInside}
+use Rattle.run_candidates.specs.Levels.{levelsAt, standsAt, Numbered, levelsOf, noLevel, LevelsHeld, LevelsLaid, LevelsInside}
 use Rattle.run_candidates.specs.Triggers.{listed, triggerIn, triggersIn}
 use Rattle.run_candidates.proofs.Listing.{conditionIn}
 
@@ -52,7 +53,7 @@ levels-alone nodes among (Time s) = refl
 levels-alone nodes among (ClockTime s) = refl
 
 levels-one : (b : Bool) (c : ControlCondition)
-    → (levelsAt b c ≡ []) ⊎ ((b ≡ true) × (levelsAt b c ≡ record { tank = watched c; target = targetOf c } ∷ []))
+    → (levelsAt b c ≡ []) ⊎ ((b ≡ true) × (levelsAt b c ≡ record { tank = watched c; target = conditionTarget c } ∷ []))
 levels-one b (HighPressure i x) = inl refl
 levels-one b (LowPressure i x) = inl refl
 levels-one true (HighLevel i x) = inr (refl, refl)
@@ -146,7 +147,7 @@ module _ {controls : List Control} {n : ℕ} {nodes : List ℕ} {among : ℕ} wh
 
   pub list-put : {i : ℕ} {tanks : List ℕ} {targets : List Float} {count next k : ℕ} {x : Float}
       → Listing controls n nodes among i tanks targets count → n ≤ 64 → i < n
-      → Numbered nodes among (watched (conditionIn controls i)) k → x ≡ targetOf (conditionIn controls i)
+      → Numbered nodes among (watched (conditionIn controls i)) k → x ≡ conditionTarget (conditionIn controls i)
       → next ≡ count + length (levelsAt (ltb k among) (conditionIn controls i))
       → Listing controls n nodes among (i + 1) (set tanks count k) (set targets count x) next
   unfolding listed

@@ -9,15 +9,6 @@ use Rattle.model.specs.declared.control.ControlCondition.{ControlCondition}
 use Rattle.model.specs.declared.control.ControlCondition.the-variants.{HighPressure, LowPressure, HighLevel, LowLevel, Time, ClockTime}
 
 -- ---- one control
--- the seconds that a condition names; 0 where it names none
-abbrev pub secondsOf : ControlCondition → ℕ
-secondsOf (HighPressure n x) = 0
-secondsOf (LowPressure n x) = 0
-secondsOf (HighLevel n x) = 0
-secondsOf (LowLevel n x) = 0
-secondsOf (Time s) = s
-secondsOf (ClockTime s) = s
-
 -- what it adds to the times
 abbrev pub timesAt : ControlCondition → List ℕ
 timesAt (HighPressure n x) = []

@@ -6,7 +6,6 @@ use mathlib.Core.List.{List, [], _∷_}
 use lib.Dec.{eqb, ltb}
 use lib.Ieee.{Float, nan}
 use lib.ListN.{getD, length}
-use Rattle.number.specs.Constants.{decimal}
 use Rattle.control.specs.Controls.{Level}
 use Rattle.model.specs.Loops.{allBelow}
 use Rattle.model.specs.declared.control.Control.{Control}
@@ -16,15 +15,6 @@ use Rattle.run_candidates.specs.Calls.{levelsIn}
 use Rattle.run_candidates.specs.Triggers.{triggersIn}
 
 -- ---- one control
--- the target that a condition names; 0 where it names none
-abbrev pub targetOf : ControlCondition → Float
-targetOf (HighPressure n x) = x
-targetOf (LowPressure n x) = x
-targetOf (HighLevel n x) = x
-targetOf (LowLevel n x) = x
-targetOf (Time s) = decimal 0 0
-targetOf (ClockTime s) = decimal 0 0
-
 -- what it adds to the levels, where a tank is at its node and where none is
 abbrev pub levelsAt : Bool → ControlCondition → List Level
 levelsAt tank (HighPressure n x) = []

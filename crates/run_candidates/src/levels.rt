@@ -2,8 +2,9 @@
 ghost use mathlib.Core.Path.{_≡_};
 ghost use Prim.Native.Nat.{_≤_};
 ghost use lib.ListN.{length};
-ghost use Rattle.run_candidates.specs.Levels.{targetOf, levelsAt, Numbered, LevelsLaid};
+ghost use Rattle.run_candidates.specs.Levels.{levelsAt, Numbered, LevelsLaid};
 ghost use Rattle.run_tables.specs.Held.{TanksInside};
+use control::condition_target;
 use control::watched;
 use model::*;
 
@@ -40,20 +41,6 @@ fn tank_number(nodes: &[u32; 256], n: usize, node: usize) -> usize
         k += 1;
     }
     n
-}
-
-// The target that a condition names; 0 where it names none.
-fn target_of(condition: ControlCondition) -> f64
-    ensures { λ r. ⌜ r ≡ targetOf condition ⌝ }
-{
-    match condition {
-        ControlCondition::HighPressure { node: _, target } => target,
-        ControlCondition::LowPressure { node: _, target } => target,
-        ControlCondition::HighLevel { tank: _, target } => target,
-        ControlCondition::LowLevel { tank: _, target } => target,
-        ControlCondition::Time { seconds: _ } => 0.0,
-        ControlCondition::ClockTime { seconds: _ } => 0.0,
-    }
 }
 
 // One for a level control, where a tank is at its node.
@@ -102,7 +89,7 @@ pub fn level_calls(
         let k = tank_number(nodes, tank_count, w);
         let on = k < tank_count;
         tanks[count] = k as u32;
-        targets[count] = target_of(condition);
+        targets[count] = condition_target(condition);
         count = count + level_count(on, condition);
         i += 1;
     }

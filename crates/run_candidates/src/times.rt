@@ -2,8 +2,9 @@
 ghost use mathlib.Core.Path.{_≡_};
 ghost use Prim.Native.Nat.{_+_, _≤_, _<_};
 ghost use lib.ListN.{length};
-ghost use Rattle.run_candidates.specs.Calls.{secondsOf, timesAt, clocksAt, timesIn, clocksIn, Laid};
+ghost use Rattle.run_candidates.specs.Calls.{timesAt, clocksAt, timesIn, clocksIn, Laid};
 ghost use Rattle.run_candidates.specs.Triggers.{triggersIn};
+use control::condition_seconds;
 use model::*;
 
 // What stands past the count is free.
@@ -16,20 +17,6 @@ fn no_seconds() -> [u32; 64]
     ensures { λ r. ⌜ 64 ≡ length r ⌝ }
 {
     [0; 64]
-}
-
-// The seconds that a condition names; 0 where it names none.
-fn seconds_of(condition: ControlCondition) -> u32
-    ensures { λ r. ⌜ r ≡ secondsOf condition ⌝ }
-{
-    match condition {
-        ControlCondition::HighPressure { node: _, target: _ } => 0,
-        ControlCondition::LowPressure { node: _, target: _ } => 0,
-        ControlCondition::HighLevel { tank: _, target: _ } => 0,
-        ControlCondition::LowLevel { tank: _, target: _ } => 0,
-        ControlCondition::Time { seconds } => seconds,
-        ControlCondition::ClockTime { seconds } => seconds,
-    }
 }
 
 // A count with one more for a time control.
@@ -58,7 +45,7 @@ pub fn time_calls(controls: [Control; 64], n: usize) -> Seconds
     while i < n {
         let c = controls[i];
         let condition = c.condition;
-        seconds[count] = seconds_of(condition);
+        seconds[count] = condition_seconds(condition);
         count = with_time(count, condition);
         i += 1;
     }
@@ -94,7 +81,7 @@ pub fn clock_calls(controls: [Control; 64], n: usize) -> Seconds
     while i < n {
         let c = controls[i];
         let condition = c.condition;
-        seconds[count] = seconds_of(condition);
+        seconds[count] = condition_seconds(condition);
         count = with_clock(count, condition);
         i += 1;
     }

@@ -7,6 +7,7 @@ use lib.Ieee.{Float, nan}
 use lib.ListN.{getD}
 use Rattle.number.specs.Constants.{decimal}
 use Rattle.control.specs.Controls.{watched}
+use Rattle.control.specs.Named.{conditionTarget, conditionSeconds}
 use Rattle.model.specs.Blank.{blankNode, blankLink, blankControl}
 use Rattle.model.specs.Links.{initialFlow}
 use Rattle.model.specs.Nodes.{elevation, isTank}
@@ -46,24 +47,6 @@ kindOf tank (LowLevel n x) = cond tank 2 0
 kindOf tank (Time s) = 3
 kindOf tank (ClockTime s) = 4
 
--- what a condition compares a head with; 0 where it compares none
-abbrev pub targetOf : ControlCondition → Float
-targetOf (HighPressure n x) = x
-targetOf (LowPressure n x) = x
-targetOf (HighLevel n x) = x
-targetOf (LowLevel n x) = x
-targetOf (Time s) = decimal 0 0
-targetOf (ClockTime s) = decimal 0 0
-
--- the time of a condition on time; 0 for the others
-abbrev pub secondsOf : ControlCondition → ℕ
-secondsOf (HighPressure n x) = 0
-secondsOf (LowPressure n x) = 0
-secondsOf (HighLevel n x) = 0
-secondsOf (LowLevel n x) = 0
-secondsOf (Time s) = s
-secondsOf (ClockTime s) = s
-
 -- 1 a status, 2 a setting, 0 neither: a status wins
 abbrev pub actionOf : StatusAction → SettingAction → ℕ
 actionOf (SetStatus x) setting = 1
@@ -86,11 +69,11 @@ rowFrom c n l = record {
   kind = kindOf (isTank n) (c .condition);
   node = watched (c .condition);
   link = c .link;
-  seconds = secondsOf (c .condition);
+  seconds = conditionSeconds (c .condition);
   action = actionOf (c .status) (c .setting);
   status = newStatus (c .status);
   elevation = elevation n;
-  target = targetOf (c .condition);
+  target = conditionTarget (c .condition);
   setting = newSetting (c .setting);
   flow = initialFlow l;
 }

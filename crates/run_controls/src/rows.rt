@@ -6,7 +6,9 @@ ghost use lib.ListN.{length};
 ghost use Rattle.control.specs.Controls.{watched};
 ghost use Rattle.model.specs.declared.control.StatusAction.the-variants.{KeepStatus};
 ghost use Rattle.run_tables.specs.Blocks.{block};
-ghost use Rattle.run_controls.specs.Rows.{kindOf, targetOf, secondsOf, actionOf, newStatus, newSetting, rowAt, rowFrom, ControlsInside, RowsLaid};
+ghost use Rattle.run_controls.specs.Rows.{kindOf, actionOf, newStatus, newSetting, rowAt, rowFrom, ControlsInside, RowsLaid};
+use control::condition_seconds;
+use control::condition_target;
 use control::watched;
 use model::*;
 
@@ -87,34 +89,6 @@ fn kind_of(is_tank: bool, condition: ControlCondition) -> u32
     }
 }
 
-// What it compares a head with; 0 where it compares none.
-fn target_of(condition: ControlCondition) -> f64
-    ensures { λ r. ⌜ r ≡ targetOf condition ⌝ }
-{
-    match condition {
-        ControlCondition::HighPressure { node: _, target } => target,
-        ControlCondition::LowPressure { node: _, target } => target,
-        ControlCondition::HighLevel { tank: _, target } => target,
-        ControlCondition::LowLevel { tank: _, target } => target,
-        ControlCondition::Time { seconds: _ } => 0.0,
-        ControlCondition::ClockTime { seconds: _ } => 0.0,
-    }
-}
-
-// The time of a condition on time; 0 for the others.
-fn seconds_of(condition: ControlCondition) -> u32
-    ensures { λ r. ⌜ r ≡ secondsOf condition ⌝ }
-{
-    match condition {
-        ControlCondition::HighPressure { node: _, target: _ } => 0,
-        ControlCondition::LowPressure { node: _, target: _ } => 0,
-        ControlCondition::HighLevel { tank: _, target: _ } => 0,
-        ControlCondition::LowLevel { tank: _, target: _ } => 0,
-        ControlCondition::Time { seconds } => seconds,
-        ControlCondition::ClockTime { seconds } => seconds,
-    }
-}
-
 // The action of a control that keeps the status.
 fn setting_action(setting: SettingAction) -> u32
     ensures { λ r. ⌜ r ≡ actionOf KeepStatus setting ⌝ }
@@ -167,11 +141,11 @@ fn row_of(c: Control, node: Node, link: Link) -> Row
     let w = watched(condition);
     let l = c.link;
     let kind = kind_of(node.is_tank(), condition);
-    let seconds = seconds_of(condition);
+    let seconds = condition_seconds(condition);
     let action = action_of(status, setting);
     let value = new_status(status);
     let elevation = node.elevation();
-    let target = target_of(condition);
+    let target = condition_target(condition);
     let number = new_setting(setting);
     let flow = link.initial_flow();
     Row {

@@ -24,7 +24,7 @@ fn copied(pda: bool, n: usize) -> usize
 
 // The multipliers of an instant, and what they make of demands, heads and demand flows.
 pub fn fill_patterns<'a>(
-    lengths: &'a [usize; 32],
+    lengths: &'a [u32; 32],
     multipliers: &'a [f64; 5376],
     start: u32,
     timestep: u32,
@@ -57,7 +57,7 @@ pub fn fill_patterns<'a>(
 // The same, but where the period of the instant is the one in force, only the tanks' demands. Answers the period.
 pub fn apply_patterns<'a>(
     in_force: u64,
-    lengths: &'a [usize; 32],
+    lengths: &'a [u32; 32],
     multipliers: &'a [f64; 5376],
     start: u32,
     timestep: u32,

@@ -11,7 +11,7 @@ use pattern_view::multiplier_in_force;
 fn pattern_multiplier(
     multipliers: &[f64; 5376],
     from: usize,
-    length: usize,
+    length: u32,
     start: u32,
     timestep: u32,
     time: u32,
@@ -20,16 +20,17 @@ fn pattern_multiplier(
     ensures { λ r. ⌜ r ≡ multiplierInForce (take length (drop from (now (multipliers .entry)))) start timestep time ⌝ }
 {
     let all: &[f64] = multipliers;
-    if 5376 - from <= length {
+    let count = length as usize;
+    if 5376 - from <= count {
         return multiplier_in_force(&all[from..], start, timestep, time);
     }
-    let to = from + length;
+    let to = from + count;
     multiplier_in_force(&all[from..to], start, timestep, time)
 }
 
 // The multiplier of each pattern at an instant, and 1 at 32 for none.
 pub fn fill_multipliers<'a>(
-    lengths: &'a [usize; 32],
+    lengths: &'a [u32; 32],
     multipliers: &'a [f64; 5376],
     start: u32,
     timestep: u32,

@@ -44,7 +44,3 @@ two-listed {ds} {a} {b} j q h e = h ∙ ap (λ (n : Demand). getD (a ∷ b ∷ n
 
 pub three-listed : {ds : Demands} {a b c n r : Demand} (j : ℕ) → ds ≡ Three a b c → r ≡ getD (a ∷ b ∷ c ∷ n ∷ []) j noDemand → n ≡ noDemand → r ≡ getD (listed ds) j noDemand
 three-listed {ds} {a} {b} {c} j q h e = h ∙ ap (λ (n : Demand). getD (a ∷ b ∷ c ∷ n ∷ []) j noDemand) e ∙ three-picked a b c j ∙ ap (λ (x : Demands). getD (listed x) j noDemand) (sym q)
-
--- a demand of a list is that of the list's equal
-pub same-demand : {l m : List Demand} {d : Demand} (j : ℕ) → l ≡ m → d ≡ getD l j noDemand → d ≡ getD m j noDemand
-same-demand j e h = h ∙ ap (λ (x : List Demand). getD x j noDemand) e

@@ -41,6 +41,10 @@ demandsIn (Junction j) = cond (j .disabled) [] (listed (j .demands))
 abbrev pub noDemand : Demand
 noDemand = record { base = nan; pattern = NoPattern }
 
+-- the four entries of a node with these demands
+abbrev pub four : {A : Type 0} → (Demand → A) → List Demand → List A
+four f ds = f (getD ds 0 noDemand) ∷ f (getD ds 1 noDemand) ∷ f (getD ds 2 noDemand) ∷ f (getD ds 3 noDemand) ∷ []
+
 -- demand j of node i of a table
 abbrev pub demandIn : List Node → ℕ → ℕ → Demand
 demandIn table i j = getD (demandsIn (getD table i blankNode .kind)) j noDemand

@@ -1,10 +1,12 @@
 // The demands in use.
 ghost use mathlib.Core.Path.{_≡_};
 ghost use mathlib.Core.List.{[], _∷_};
-ghost use Prim.Native.Nat.{_≤_};
+ghost use Prim.Native.Nat.{_*_, _≤_, _<_};
 ghost use lib.ListN.{length, getD};
 ghost use Rattle.state_patterns.specs.Patterns.{orDefault};
-ghost use Rattle.run_sources.specs.Sources.{placeOf, listed, demandsIn, noDemand, CountsLaid, DemandsLaid};
+ghost use Rattle.model.specs.declared.node.Demand.{Demand};
+ghost use Rattle.run_tables.specs.Blocks.{block};
+ghost use Rattle.run_sources.specs.Sources.{placeOf, listed, demandsIn, noDemand, four, DemandsLaid};
 use crate::places::place_of;
 use model::*;
 
@@ -122,17 +124,53 @@ fn no_places() -> [u32; 1024]
     [0; 1024]
 }
 
-fn demand_counts(table: [Node; 256], n: usize) -> [u32; 256]
-    requires { ⌜ n ≤ 256 ⌝ }
-    ensures { λ r. ⌜ CountsLaid table n r ⌝ }
+// Four bases, written as those of node i.
+fn put_bases(bases: &mut [f64; 1024], i: usize, a: f64, b: f64, c: f64, d: f64)
+    requires { ⌜ i < 256 ⌝ }
+    ensures { λ _. ⌜ now (bases .exit) ≡ block (now (bases .entry)) (4 * i) (a ∷ b ∷ c ∷ d ∷ []) ⌝ }
 {
-    let mut counts = no_counts();
-    let mut i = 0;
-    while i < n {
-        counts[i] = how_many(demands_of(table[i]));
-        i += 1;
-    }
-    counts
+    bases[4 * i] = a;
+    bases[4 * i + 1] = b;
+    bases[4 * i + 2] = c;
+    bases[4 * i + 3] = d;
+}
+
+// And four places.
+fn put_places(places: &mut [u32; 1024], i: usize, a: u32, b: u32, c: u32, d: u32)
+    requires { ⌜ i < 256 ⌝ }
+    ensures { λ _. ⌜ now (places .exit) ≡ block (now (places .entry)) (4 * i) (a ∷ b ∷ c ∷ d ∷ []) ⌝ }
+{
+    places[4 * i] = a;
+    places[4 * i + 1] = b;
+    places[4 * i + 2] = c;
+    places[4 * i + 3] = d;
+}
+
+// Node i's demands, as its four entries.
+fn put_demands(
+    bases: &mut [f64; 1024],
+    places: &mut [u32; 1024],
+    i: usize,
+    default: PatternIndex,
+    demands: Demands,
+)
+    requires { ⌜ i < 256 ⌝ }
+    ensures { λ _. ⌜ now (bases .exit) ≡ block (now (bases .entry)) (4 * i) (four (λ (d : Demand). d .base) (listed demands)) ⌝ }
+    ensures { λ _. ⌜ now (places .exit) ≡ block (now (places .entry)) (4 * i) (four (λ (d : Demand). placeOf (orDefault default (d .pattern))) (listed demands)) ⌝ }
+{
+    let a = listed_at(demands, 0);
+    let b = listed_at(demands, 1);
+    let c = listed_at(demands, 2);
+    let d = listed_at(demands, 3);
+    put_bases(bases, i, a.base, b.base, c.base, d.base);
+    put_places(
+        places,
+        i,
+        demand_place(default, a),
+        demand_place(default, b),
+        demand_place(default, c),
+        demand_place(default, d),
+    );
 }
 
 // The demands of the first n nodes, the default pattern put in where they name none.
@@ -140,17 +178,15 @@ pub fn demand_table(table: [Node; 256], n: usize, default: PatternIndex) -> Dema
     requires { ⌜ n ≤ 256 ⌝ }
     ensures { λ r. ⌜ DemandsLaid table n default (r .counts) (r .bases) (r .patterns) ⌝ }
 {
-    let counts = demand_counts(table, n);
+    let mut counts = no_counts();
     let mut bases = no_bases();
     let mut patterns = no_places();
-    let most = 4 * n;
-    let mut at = 0;
-    while at < most {
-        let i = at / 4;
-        let d = listed_at(demands_of(table[i]), at % 4);
-        bases[at] = d.base;
-        patterns[at] = demand_place(default, d);
-        at += 1;
+    let mut i = 0;
+    while i < n {
+        let demands = demands_of(table[i]);
+        counts[i] = how_many(demands);
+        put_demands(&mut bases, &mut patterns, i, default, demands);
+        i += 1;
     }
     DemandTable {
         counts: counts,

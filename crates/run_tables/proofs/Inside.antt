@@ -24,3 +24,10 @@ distinct {test} {n} h k l j m q =
 pub laid-pushed : {table : List Node} {among : ℕ} {nodes : List ℕ} {numbers : List Float} {overflows : List ℕ} {n : ℕ}
     → TanksLaid table among nodes numbers overflows n → Pushed (tankIn table) among nodes n
 laid-pushed {table} {among} laid = record { many = laid .count; few = omega (arith, laid .count, chosen-few (tankIn table) among); each = laid .node }
+
+module _ {table : List Node} {among : ℕ} {nodes : List ℕ} {numbers : List Float} {overflows : List ℕ} {n : ℕ} (laid : TanksLaid table among nodes numbers overflows n) where
+  pub tanks-inside : among ≤ 256 → TanksInside nodes n
+  tanks-inside few = inside (laid-pushed laid) few
+
+  pub tanks-distinct : Distinct nodes n
+  tanks-distinct = distinct (laid-pushed laid)

@@ -21,9 +21,9 @@ use Rattle.tables.specs.Fit.{TablesFit}
 use Rattle.state_node.specs.Inflow.{withDemand}
 use Rattle.state_link.specs.Closing.{closesInto, closesOutOf, closed}
 use Rattle.run_tables.specs.Chosen.{chosen}
-use Rattle.run_tables.specs.Held.{Part, TanksInside, TanksLaid}
+use Rattle.run_tables.specs.Held.{Part, TanksLaid}
 use Rattle.run_tables.proofs.Listed.{chosen-at}
-use Rattle.run_tables.proofs.Inside.{inside, laid-pushed}
+use Rattle.run_tables.proofs.Inside.{laid-pushed}
 use Rattle.run_state.specs.Lists.{Lists, headOf, demandFlowOf, settingOf, headsOf, demandsOf, demandFlowsOf, flowsOf, statusesOf, settingsOf, listsOf, NodesHold, LinksHold}
 use Rattle.run_state.proofs.Apart.{same-state}
 use Rattle.tank_links.specs.Groups.{endsAt, startsAt, linksInto, tankCount, tankNode, begin, joined, listed, isLaidOut}
@@ -73,9 +73,6 @@ module _ {p : Project} (fit : TablesFit p) where
     pub groups-laid : {begins middles links : List ℕ} → Stands p begins middles links → GroupsLaid p nodes begins middles links n
     groups-laid {begins} {middles} {links} there k l =
         subst (GroupLaid p begins middles links k) (sym (laid .node k l)) (groups-stand p there k (omega (arith, laid .count)))
-
-    pub tanks-inside : TanksInside nodes n
-    tanks-inside = inside (laid-pushed laid) (fit .few .nodes)
 
     -- what is laid out for a project's tanks is the table
     pub laid-is : (b m l : List ℕ) {begins middles links : List ℕ} → b ≡ replicate 257 0 → m ≡ replicate 256 0 → l ≡ replicate 768 0

@@ -11,6 +11,7 @@ use Rattle.number.specs.Constants.{lTol}
 use Rattle.number.specs.Operators.{_⊖_}
 use Rattle.clock.specs.Steps.{clockTime}
 use Rattle.control.specs.Controls.{watched, isActive, activate}
+use Rattle.control.specs.Named.{conditionTarget, conditionSeconds}
 use Rattle.state_link.specs.Controls.{passedOver, controlled}
 use Rattle.model.specs.Blank.{nodeAt, linkAt, controlAt, nodeStateAt, linkStateAt, withLink, blankNodeState, blankLinkState}
 use Rattle.model.specs.Loops.{through}
@@ -31,7 +32,7 @@ use Rattle.model.specs.declared.state.State.{State}
 use Rattle.model.proofs.Loops.{kept}
 use Rattle.model.proofs.Pointwise.{map-set, carried-keeping}
 use Rattle.run_controls.specs.Apply.{dueBy, isDue, acted, linkIn, withLinkIn, rowTurn, linksAfter}
-use Rattle.run_controls.specs.Rows.{kindOf, targetOf, secondsOf, rowFrom, rowIn, RowsLaid, RowsInside}
+use Rattle.run_controls.specs.Rows.{kindOf, rowFrom, rowIn, RowsLaid, RowsInside}
 use Rattle.run_controls.specs.declared.rows.Row.{Row}
 use Rattle.run_state.specs.Lists.{headOf, headsOf, flowOf, flowsOf, statusOf, statusesOf, settingOf, settingsOf, linksOf, LinksHold}
 use Rattle.run_state.proofs.Apart.{same-state, packed, links-changed}
@@ -58,7 +59,7 @@ low-is false above time clock = sym (and-false (not (eqb time 0)))
 -- a row is due where its control is not passed over and is active
 due-is :
     (c : ControlCondition) (n : Node) (s : NodeState) (time clock : ℕ)
-    → dueBy (kindOf (isTank n) c) (s .head ⊖ elevation n ⊖ targetOf c) (secondsOf c) time clock ≡ (not (passedOver c time) && isActive c n s time clock)
+    → dueBy (kindOf (isTank n) c) (s .head ⊖ elevation n ⊖ conditionTarget c) (conditionSeconds c) time clock ≡ (not (passedOver c time) && isActive c n s time clock)
 unfolding dueBy
 due-is (HighPressure i x) n s time clock = refl
 due-is (LowPressure i x) n s time clock = refl

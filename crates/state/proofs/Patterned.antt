@@ -26,6 +26,7 @@ use Rattle.model.proofs.Loops.{kept}
 use Rattle.model.proofs.Pointwise.{same-turns, carried, map-set}
 use Rattle.run_patterns.specs.Applying.{Written, Inputs, filled}
 use Rattle.run_patterns.specs.Filling.{demandPut, demandSum, demandsFilled, headPut, headsFilled, demandCopied, demandsCopied}
+use Rattle.run_sources.specs.Lengths.{LengthsLaid}
 use Rattle.run_sources.specs.Sources.{DemandsLaid, headPattern, isPattern, patternedIn, HeadsLaid}
 use Rattle.run_state.specs.Lists.{Lists, Links, NodesHold, headOf, demandOf, demandFlowOf, headsOf, demandsOf, demandFlowsOf, flowOf, statusOf, settingOf}
 use Rattle.run_state.proofs.Apart.{same-state}
@@ -34,7 +35,7 @@ use Rattle.run_tables.proofs.Along.{chosen-along, held-along}
 use Rattle.run_tables.proofs.Listed.{chosen-at}
 use Rattle.state_patterns.specs.Patterns.{reservoirHead, patternHead, patternDemand, patterned}
 use Rattle.state.specs.Patterns.{multiplierOf, nodePatterned, applyPatterns}
-use Rattle.state.proofs.Tabled.{multipliersOf, multiplier-is, demand-is}
+use Rattle.state.proofs.Tabled.{words-fill, multipliersOf, multiplier-is, demand-is}
 
 -- the period of a state's instant
 abbrev pub periodOf : Project → State → ℕ
@@ -42,8 +43,9 @@ periodOf p s = period (p .options .«pattern_start») (p .options .pattern) (s .
 
 -- ---- what the passes read is a project's
 pub record InputsLaid (p : Project) (t : Inputs) : Type 0 where
-  pub lengths : t .lengths ≡ p .lengths
+  pub lengths : LengthsLaid (p .lengths) (t .lengths)
   pub multipliers : t .multipliers ≡ p .multipliers
+  pub long : length (p .multipliers) ≡ 5376
   pub start : t .start ≡ p .options .«pattern_start»
   pub timestep : t .timestep ≡ p .options .pattern
   pub scale : t .scale ≡ p .options .«demand_multiplier»
@@ -178,7 +180,7 @@ pub filled-is : {p : Project} {t : Inputs} (s : State) (w : Written) → InputsL
     → Holds (applyPatterns p s) (filled t (s .clock .instant) w)
 unfolding filled
 filled-is {p} {t} s w laid h long room =
-    rw (laid .lengths, laid .multipliers, laid .start, laid .timestep, laid .scale, laid .pda, laid .n, sym (h .head), sym (h .demand), sym (h .demand-flow))
+    rw (laid .multipliers, laid .start, laid .timestep, laid .scale, laid .pda, laid .n, sym (h .head), sym (h .demand), sym (h .demand-flow), words-fill (p .multipliers) (p .options .«pattern_start») (p .options .pattern) (s .clock .instant) (w .table) (laid .lengths) (laid .long))
     (record {
       head = sym (fill-heads-is p s (w .table) long (laid .heads));
       demand = sym (fill-demands-is p s (w .table) long (laid .demands));

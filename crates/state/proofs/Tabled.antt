@@ -1,14 +1,14 @@
 -- The table of an instant's multipliers gives each pattern its multiplier, and node by node the pattern's demand. Assumes nothing.
-use Prim.Native.Nat.{ℕ, _<_}
-use mathlib.Core.Path.{_≡_, refl, ap, _∙_}
+use Prim.Native.Nat.{ℕ, _*_, _≤_, _<_}
+use mathlib.Core.Path.{_≡_, refl, sym, ap, _∙_}
 use mathlib.Core.Bool.{Bool, true, false, cond}
 use mathlib.Core.List.{List, []}
 use native.Mathlib.Omega.{arith}
 use lib.Dec.{ltb}
 use lib.Ieee.{Float, nan}
-use lib.ListN.{getD, length}
-use lib.Seq.{getD-set-same, getD-set-other}
-use borrow.Author.Tests.{ltb-true}
+use lib.ListN.{getD, set, length, take, drop, length-drop}
+use lib.Seq.{getD-set-same, getD-set-other, take-all}
+use borrow.Author.Tests.{ltb-true, ltb-false}
 use Rattle.number.specs.Constants.{decimal}
 use Rattle.number.specs.Operators.{_·_, _⊕_}
 use Rattle.model.specs.Blank.{blankNode}
@@ -26,10 +26,32 @@ use Rattle.model.specs.declared.project.Project.{Project}
 use Rattle.model.proofs.Each.{changed, same-length, below}
 use Rattle.model.proofs.Pointwise.{same-turns}
 use Rattle.pattern_view.specs.View.{multiplierInForce}
-use Rattle.run_patterns.specs.Filling.{multipliersFilled, demandAdded, demandSum}
+use Rattle.run_patterns.specs.Filling.{multiplierPut, multipliersFilled, demandAdded, demandSum}
+use Rattle.run_sources.specs.Lengths.{lengthWord, LengthsLaid}
 use Rattle.run_sources.specs.Sources.{placeOf, listed, demandsIn, noDemand, demandIn, baseAt, placeAt, DemandsLaid}
 use Rattle.state_patterns.specs.Patterns.{orDefault, demandOf, sumOf, junctionDemand, patternDemand}
 use Rattle.state.specs.Patterns.{multiplierOf}
+
+-- ---- lengths as words: what is taken from the table of the multipliers is the same
+take-word : (n : ℕ) (xs : List Float) → length xs ≤ 5376 → take (lengthWord n) xs ≡ take n xs
+take-word n xs l = by (ltb n 5376) refl
+  where
+    by : (b : Bool) → ltb n 5376 ≡ b → take (cond b n 5376) xs ≡ take n xs
+    by true e = refl
+    by false e = take-all 5376 xs l ∙ sym (take-all n xs (omega (arith, l, ltb-false n 5376 e)))
+
+pub words-fill : {lengths words : List ℕ} (multipliers : List Float) (start timestep time : ℕ) (table : List Float) → LengthsLaid lengths words → length multipliers ≡ 5376
+    → multipliersFilled words multipliers start timestep time table ≡ multipliersFilled lengths multipliers start timestep time table
+unfolding multipliersFilled
+words-fill {lengths} {words} multipliers start timestep time table laid long =
+    ap (λ (t : List Float). set t 32 (decimal 1 0))
+    (same-turns 32 (multiplierPut words multipliers start timestep time) (multiplierPut lengths multipliers start timestep time) table
+    (λ k t l. ap (λ (xs : List Float). set t k (multiplierInForce xs start timestep time)) (taken k l)))
+  where
+    taken : (k : ℕ) → k < 32 → take (getD words k 0) (drop (k * 168) multipliers) ≡ take (getD lengths k 0) (drop (k * 168) multipliers)
+    taken k l =
+        ap (λ (n : ℕ). take n (drop (k * 168) multipliers)) (laid .each k l)
+        ∙ take-word (getD lengths k 0) (drop (k * 168) multipliers) (omega (arith, long, length-drop (k * 168) multipliers))
 
 -- ---- multipliers
 module _ (p : Project) (time : ℕ) (table : List Float) where

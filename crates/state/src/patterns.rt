@@ -7,6 +7,7 @@ use model::*;
 use run_patterns::fill_patterns;
 use run_sources::demand_table;
 use run_sources::head_table;
+use run_sources::pattern_lengths;
 use run_state::*;
 
 fn no_multipliers() -> [f64; 33]
@@ -25,6 +26,8 @@ pub fn apply_patterns(p: Project, s: State) -> State
     let default = o.default_pattern;
     let d = demand_table(nodes, p.counts.nodes, default);
     let h = head_table(nodes, p.counts.nodes);
+    let ps = p.lengths;
+    let lengths = pattern_lengths(ps);
     let ns = s.nodes;
     let links = s.links;
     let clock = s.clock;
@@ -33,7 +36,7 @@ pub fn apply_patterns(p: Project, s: State) -> State
     let mut demands = demands_of(ns);
     let mut demand_flows = demand_flows_of(ns);
     fill_patterns(
-        &p.lengths,
+        &lengths,
         &p.multipliers,
         o.pattern_start,
         o.pattern,

@@ -42,6 +42,7 @@ begins c p laid same ordered =
     record {
       laid = laid;
       same = same;
+      whole = c .before .before .before .before .before .before .before .before .before .before .before .before .before .before .before .pre .whole;
       ordered = ordered;
       held = held-at-first (a .s) (c .before .before .before .before .before .before .before .before .before .before .heads-of .ensures) (c .before .before .before .before .before .before .before .before .before .demands-of .ensures) (c .before .before .before .before .before .before .before .before .demand-flows-of .ensures) (c .before .before .before .before .before .before .before .flows-of .ensures) (c .before .before .before .before .before .before .statuses-of .ensures) (c .before .before .before .before .before .settings-of .ensures);
       nodes = mapped _ (a .s .nodes) 256 (c .before .before .before .before .before .before .before .before .before .before .before .before .before .before .before .good .1 .1 .0 .1 .1 .0 .1 .0 .1);

@@ -1,6 +1,6 @@
 -- `driver_tables::lay_out` meets its contract. Assumes nothing.
 use Rattle.driver_tables.proofs.Laying.{groups-asked, laid-all}
-use Rattle.run_tables.proofs.Inside.{inside, laid-pushed}
+use Rattle.run_tables.proofs.Inside.{tanks-inside}
 use borrow.Author.Needs.{needs}
 use Rattle.driver_tables.proofs.lay_out.Statement.{statement}
 use Rattle.driver_tables.proofs.lay_out.Tie as tie
@@ -21,7 +21,7 @@ clock-calls-requires : tie.Need-clock-calls-requires
 clock-calls-requires c κs = search needs
 
 level-calls-requires : tie.Need-level-calls-requires
-level-calls-requires c κs = (c .before .before .before .before .before .before .before .before .before .pre .few .controls, inside (laid-pushed (c .before .before .before .before .before .before .before .before .tank-table .ensures)) (c .before .before .before .before .before .before .before .before .before .pre .few .nodes))
+level-calls-requires c κs = (c .before .before .before .before .before .before .before .before .before .pre .few .controls, tanks-inside (c .before .before .before .before .before .before .before .before .tank-table .ensures) (c .before .before .before .before .before .before .before .before .before .pre .few .nodes))
 
 demand-table-requires : tie.Need-demand-table-requires
 demand-table-requires c κs = c .before .before .before .before .before .before .before .before .before .before .pre .few .nodes
@@ -29,14 +29,17 @@ demand-table-requires c κs = c .before .before .before .before .before .before 
 head-table-requires : tie.Need-head-table-requires
 head-table-requires c κs = c .before .before .before .before .before .before .before .before .before .before .before .pre .few .nodes
 
+pattern-lengths-requires : tie.Need-pattern-lengths-requires
+pattern-lengths-requires c κs = tt
+
 junction-nodes-requires : tie.Need-junction-nodes-requires
-junction-nodes-requires c κs = c .before .before .before .before .before .before .before .before .before .before .before .before .pre .few .nodes
+junction-nodes-requires c κs = c .before .before .before .before .before .before .before .before .before .before .before .before .before .pre .few .nodes
 
 link-ends-requires : tie.Need-link-ends-requires
-link-ends-requires c κs = c .before .before .before .before .before .before .before .before .before .before .before .before .before .pre .ends
+link-ends-requires c κs = c .before .before .before .before .before .before .before .before .before .before .before .before .before .before .pre .ends
 
 tank-marks-requires : tie.Need-tank-marks-requires
-tank-marks-requires c κs = c .before .before .before .before .before .before .before .before .before .before .before .before .before .before .pre .few .nodes
+tank-marks-requires c κs = c .before .before .before .before .before .before .before .before .before .before .before .before .before .before .before .pre .few .nodes
 
 is-fast-requires : tie.Need-is-fast-requires
 is-fast-requires c κs = search needs
@@ -46,9 +49,7 @@ times-from-requires c κs = search needs
 
 returns : tie.Need-returns
 returns c =
-    laid-all (c .before .before .before .before .before .before .before .before .before .before .before .before .before .before .before .before .tank-table .ensures) (c .before .before .before .before .before .before .before .before .before .before .before .before .before .groups-of .ensures) (c .before .before .before .before .before .before .before .before .before .before .before .before .control-table .ensures) (c .before .before .before .before .before .before .before .before .before .before .before .time-calls .ensures) (c .before .before .before .before .before .before .before .before .before .before .clock-calls .ensures)
-    (c .before .before .before .before .before .before .before .level-calls .ensures) (c .before .before .before .before .before .before .demand-table .ensures) (c .before .before .before .before .before .head-table .ensures) (c .before .before .before .before .junction-nodes .ensures) (c .before .before .before .link-ends .ensures) (c .before .before .tank-marks .ensures)
-    (c .before .is-fast .ensures) (c .times-from .ensures)
+    laid-all (c .before .before .before .before .before .before .before .before .before .before .before .before .before .before .before .before .before .tank-table .ensures) (c .before .before .before .before .before .before .before .before .before .before .before .before .before .before .groups-of .ensures) (c .before .before .before .before .before .before .before .before .before .before .before .before .before .control-table .ensures) (c .before .before .before .before .before .before .before .before .before .before .before .before .time-calls .ensures) (c .before .before .before .before .before .before .before .before .before .before .before .clock-calls .ensures) (c .before .before .before .before .before .before .before .before .level-calls .ensures) (c .before .before .before .before .before .before .before .demand-table .ensures) (c .before .before .before .before .before .before .head-table .ensures) (c .before .before .before .before .before .pattern-lengths .ensures) (c .before .before .before .before .junction-nodes .ensures) (c .before .before .before .link-ends .ensures) (c .before .before .tank-marks .ensures) (c .before .is-fast .ensures) (c .times-from .ensures)
 
 pub lay-out-spec : {M : Type 1} → statement M
 lay-out-spec =
@@ -62,6 +63,7 @@ lay-out-spec =
     level-calls-requires
     demand-table-requires
     head-table-requires
+    pattern-lengths-requires
     junction-nodes-requires
     link-ends-requires
     tank-marks-requires

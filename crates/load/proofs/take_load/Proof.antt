@@ -4,7 +4,8 @@ use denote.Ref.{now}
 use lib.ListN.{length}
 use Rattle.model.proofs.Each.{mapped}
 use Rattle.tank_links.proofs.Judging.{ends-inside}
-use Rattle.load.proofs.ByTable.{junctions-inside, links-inside, tanks-inside, loaded-by-is}
+use Rattle.load.proofs.ByTable.{junctions-inside, links-inside, loaded-by-is}
+use Rattle.run_tables.proofs.Inside.{tanks-inside}
 use Rattle.load.proofs.take_load.Statement.{statement}
 use Rattle.load.proofs.take_load.Tie as tie
 
@@ -24,7 +25,7 @@ tank-marks-requires : tie.Need-tank-marks-requires
 tank-marks-requires c κs = c .before .before .before .before .before .before .pre .few .nodes
 
 take-by-requires : tie.Need-take-by-requires
-take-by-requires c κs = (junctions-inside (c .before .before .before .before .before .before .before .before .before .before .before .before .before .before .before .pre) (c .before .before .before .before .before .before .before .before .before .before .before .junction-nodes .ensures), (links-inside (c .before .before .before .before .before .before .before .before .before .before .before .before .before .before .before .pre) (c .before .before .before .before .before .before .before .before .before .before .link-ends .ensures), tanks-inside (c .before .before .before .before .before .before .before .before .before .before .before .before .before .before .before .pre) (c .before .before .before .before .before .before .before .before .before .tank-table .ensures)))
+take-by-requires c κs = (junctions-inside (c .before .before .before .before .before .before .before .before .before .before .before .before .before .before .before .pre) (c .before .before .before .before .before .before .before .before .before .before .before .junction-nodes .ensures), (links-inside (c .before .before .before .before .before .before .before .before .before .before .before .before .before .before .before .pre) (c .before .before .before .before .before .before .before .before .before .before .link-ends .ensures), tanks-inside (c .before .before .before .before .before .before .before .before .before .tank-table .ensures) (c .before .before .before .before .before .before .before .before .before .before .before .before .before .before .before .pre .few .nodes)))
 
 returns : tie.Need-returns
 returns c =

@@ -51,8 +51,8 @@ mul-tanks c = omega (arith, c .before .before .before .before .before .before .b
 array-write-tanks : tie.Need-array-write-tanks Inv-loop μ-loop
 array-write-tanks c = omega (arith, c .before .before .before .before .before .before .before .pre .0, c .before .before .before .before .loop .inv .few, c .before .before .before .before .loop .inv .long)
 
-target-of-requires : tie.Need-target-of-requires Inv-loop μ-loop
-target-of-requires c κs = tt
+condition-target-requires : tie.Need-condition-target-requires Inv-loop μ-loop
+condition-target-requires c κs = tt
 
 mul-targets : tie.Need-mul-targets Inv-loop μ-loop
 mul-targets c = omega (arith, c .before .before .before .before .before .before .before .before .pre .0, c .before .before .before .before .before .loop .inv .few)
@@ -74,7 +74,7 @@ loop-less c = search needs
 
 loop-again : tie.Need-loop-again Inv-loop μ-loop
 loop-again c =
-    list-put (c .before .before .before .before .before .before .loop .inv) (c .before .before .before .before .before .before .before .before .before .pre .0) (search needs) (rw (← c .before .before .before .watched .ensures) (c .before .before .tank-number .ensures)) (c .before .target-of .ensures)
+    list-put (c .before .before .before .before .before .before .loop .inv) (c .before .before .before .before .before .before .before .before .before .pre .0) (search needs) (rw (← c .before .before .before .watched .ensures) (c .before .before .tank-number .ensures)) (c .before .condition-target .ensures)
     (ap (λ (k : ℕ). c .before .before .before .before .before .before .loop .count + k) (c .level-count .ensures))
 
 returns : tie.Need-returns Inv-loop μ-loop
@@ -96,7 +96,7 @@ level-calls-spec =
     cast-tanks
     mul-tanks
     array-write-tanks
-    target-of-requires
+    condition-target-requires
     mul-targets
     array-write-targets
     level-count-requires

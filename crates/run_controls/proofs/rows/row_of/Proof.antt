@@ -12,8 +12,8 @@ is-tank-requires c κs = tt
 kind-of-requires : tie.Need-kind-of-requires
 kind-of-requires c κs = tt
 
-seconds-of-requires : tie.Need-seconds-of-requires
-seconds-of-requires c κs = tt
+condition-seconds-requires : tie.Need-condition-seconds-requires
+condition-seconds-requires c κs = tt
 
 action-of-requires : tie.Need-action-of-requires
 action-of-requires c κs = tt
@@ -24,8 +24,8 @@ new-status-requires c κs = tt
 elevation-requires : tie.Need-elevation-requires
 elevation-requires c κs = tt
 
-target-of-requires : tie.Need-target-of-requires
-target-of-requires c κs = tt
+condition-target-requires : tie.Need-condition-target-requires
+condition-target-requires c κs = tt
 
 new-setting-requires : tie.Need-new-setting-requires
 new-setting-requires c κs = tt
@@ -40,7 +40,7 @@ cast-t19 : tie.Need-cast-t19
 cast-t19 c = omega (arith, c .before .before .before .before .before .before .before .before .before .before .pre .1)
 
 returns : tie.Need-returns
-returns c = rw (c .before .before .before .before .before .before .before .kind-of .ensures, c .before .before .before .before .before .before .before .before .is-tank .ensures, c .before .before .before .before .before .before .before .before .before .watched .ensures, c .before .before .before .before .before .before .seconds-of .ensures, c .before .before .before .before .before .action-of .ensures, c .before .before .before .before .new-status .ensures, c .before .before .before .elevation .ensures, c .before .before .target-of .ensures, c .before .new-setting .ensures, c .initial-flow .ensures)
+returns c = rw (c .before .before .before .before .before .before .before .kind-of .ensures, c .before .before .before .before .before .before .before .before .is-tank .ensures, c .before .before .before .before .before .before .before .before .before .watched .ensures, c .before .before .before .before .before .before .condition-seconds .ensures, c .before .before .before .before .before .action-of .ensures, c .before .before .before .before .new-status .ensures, c .before .before .before .elevation .ensures, c .before .before .condition-target .ensures, c .before .new-setting .ensures, c .initial-flow .ensures)
 
 pub row-of-spec : {M : Type 1} → statement M
 row-of-spec =
@@ -49,11 +49,11 @@ row-of-spec =
     watched-requires
     is-tank-requires
     kind-of-requires
-    seconds-of-requires
+    condition-seconds-requires
     action-of-requires
     new-status-requires
     elevation-requires
-    target-of-requires
+    condition-target-requires
     new-setting-requires
     initial-flow-requires
     cast-t18

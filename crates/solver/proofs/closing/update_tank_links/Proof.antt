@@ -2,9 +2,9 @@
 use mathlib.Core.Path.{_≡_}
 use lib.ListN.{length}
 use Rattle.model.proofs.Each.{mapped}
-use Rattle.run_tables.proofs.Inside.{distinct, laid-pushed}
+use Rattle.run_tables.proofs.Inside.{tanks-inside, tanks-distinct}
 use Rattle.tank_links.proofs.Judging.{Stands, stands, ends-inside}
-use Rattle.solver.proofs.ByTable.{tanks-inside, groups-inside, laid-is, closed-by-is}
+use Rattle.solver.proofs.ByTable.{groups-inside, laid-is, closed-by-is}
 use borrow.Author.Needs.{needs}
 use Rattle.solver.proofs.closing.update_tank_links.Statement.{statement}
 use Rattle.solver.proofs.closing.update_tank_links.Tie as tie
@@ -33,13 +33,13 @@ lay-groups-requires : tie.Need-lay-groups-requires
 lay-groups-requires c κs =
     let t = c .before .before .before .before .before .before .before .before .tank-table .ensures in
     let a = c .before .before .before .before .before .before .before .before .before .before .before in
-    (ends-inside (a .args .p) (a .pre), (tanks-inside (a .pre) t, distinct (laid-pushed t)))
+    (ends-inside (a .args .p) (a .pre), (tanks-inside t (a .pre .few .nodes), tanks-distinct t))
 
 close-by-requires : tie.Need-close-by-requires
 close-by-requires c κs =
     let t = c .before .before .before .before .before .before .before .before .before .before .before .before .before .before .before .before .tank-table .ensures in
     let a = c .before .before .before .before .before .before .before .before .before .before .before .before .before .before .before .before .before .before .before in
-    (tanks-inside (a .pre) t, groups-inside (a .pre) t (there (c .before .before .before .before .before .before .before)))
+    (tanks-inside t (a .pre .few .nodes), groups-inside (a .pre) t (there (c .before .before .before .before .before .before .before)))
 
 returns : tie.Need-returns
 returns c =

@@ -3,7 +3,8 @@ use mathlib.Core.Path.{_≡_}
 use lib.ListN.{length}
 use Rattle.model.proofs.Each.{mapped}
 use Rattle.tank_links.proofs.Judging.{Stands, stands}
-use Rattle.solver.proofs.ByTable.{tanks-inside, groups-inside, closed-by-is}
+use Rattle.solver.proofs.ByTable.{groups-inside, closed-by-is}
+use Rattle.run_tables.proofs.Inside.{tanks-inside}
 use borrow.Author.Needs.{needs}
 use Rattle.solver.proofs.closing.update_tank_links_by.Statement.{statement}
 use Rattle.solver.proofs.closing.update_tank_links_by.Tie as tie
@@ -21,7 +22,7 @@ close-by-requires : tie.Need-close-by-requires
 close-by-requires c κs =
     let t = c .before .before .before .before .tank-table .ensures in
     let a = c .before .before .before .before .before .before in
-    (tanks-inside (a .pre .0) t, groups-inside (a .pre .0) t (there a))
+    (tanks-inside t (a .pre .0 .few .nodes), groups-inside (a .pre .0) t (there a))
 
 returns : tie.Need-returns
 returns c =

@@ -1,5 +1,5 @@
 -- `state::tanks::update_tanks` meets its contract: the pass on what is unpacked, packed. Assumes nothing.
-use Rattle.run_tables.proofs.Inside.{inside, laid-pushed}
+use Rattle.run_tables.proofs.Inside.{tanks-inside}
 use Rattle.state.proofs.Moved.{moved-packed}
 use borrow.Author.Needs.{needs}
 use Rattle.state.proofs.tanks.update_tanks.Statement.{statement}
@@ -18,7 +18,7 @@ demand-flows-of-requires : tie.Need-demand-flows-of-requires
 demand-flows-of-requires c κs = search needs
 
 move-tanks-requires : tie.Need-move-tanks-requires
-move-tanks-requires c κs = inside (laid-pushed (c .before .before .before .before .before .before .before .before .before .before .before .before .tank-table .ensures)) (c .before .before .before .before .before .before .before .before .before .before .before .before .before .before .pre .few .nodes)
+move-tanks-requires c κs = tanks-inside (c .before .before .before .before .before .before .before .before .before .before .before .before .tank-table .ensures) (c .before .before .before .before .before .before .before .before .before .before .before .before .before .before .pre .few .nodes)
 
 nodes-from-requires : tie.Need-nodes-from-requires
 nodes-from-requires c κs = search needs

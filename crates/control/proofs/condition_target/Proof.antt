@@ -1,9 +1,9 @@
--- `run_controls::rows::target_of` meets its contract. Assumes nothing.
+-- `control::condition_target` meets its contract. Assumes nothing.
 use lib.Ieee.{ofBits}
 use Rattle.number.specs.Constants.{decimal}
 use borrow.Author.Needs.{needs}
-use Rattle.run_controls.proofs.rows.target_of.Statement.{statement}
-use Rattle.run_controls.proofs.rows.target_of.Tie as tie
+use Rattle.control.proofs.condition_target.Statement.{statement}
+use Rattle.control.proofs.condition_target.Tie as tie
 
 enum-known-condition : tie.Need-enum-known-condition
 enum-known-condition c = search needs
@@ -43,8 +43,8 @@ returns-6 : tie.Need-returns-6
 unfolding decimal ofBits
 returns-6 c = rw (c .enum-told2 .given .1)
 
-pub target-of-spec : {M : Type 1} → statement M
-target-of-spec =
+pub condition-target-spec : {M : Type 1} → statement M
+condition-target-spec =
     tie.close
     (tie.spec
     enum-known-condition
