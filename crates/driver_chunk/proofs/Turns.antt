@@ -34,15 +34,14 @@ use Rattle.driver_load.specs.declared.Loaded.{Loaded}
 use Rattle.driver_load.proofs.Inner.{fit}
 use Rattle.driver_tables.specs.Laid.{Laid}
 use Rattle.driver_tables.specs.declared.Tables.{Tables}
-use Rattle.driver_turn.specs.Turns.{Turn, finishedTurn, turn}
-use Rattle.driver_turn.specs.Turned.{Turned, TurnedAs}
+use Rattle.driver_turn.specs.Turns.{Turn, turn}
+use Rattle.driver_turn.specs.Turned.{TurnedAs}
 use Rattle.driver_turn.proofs.Arrays.{inputsOf, controlled, closed, summed, lengthBy, movedOn}
 use Rattle.driver_turn.proofs.Cases.{turned-as, turn-finished, ended-as, stepped-as}
 use Rattle.driver_turn.proofs.Loads.{valuesBy, values-by, with-arrays}
 use Rattle.driver_turn.proofs.Made.{Meets, MadeBy, prepared-arrays, made-refused, made-step}
-use Rattle.driver_chunk.specs.declared.Chunk.{Chunk}
 use Rattle.driver_chunk.specs.Chunks.{wantsInput, canTurn, TurnsRan}
-use Rattle.driver_chunk.proofs.Going.{Going, Ready, ready, going-begun, going-length, going-inside, going-less, going-turn, going-ended}
+use Rattle.driver_chunk.proofs.Going.{Going, Ready, ready, going-begun, going-less, going-turn, going-ended}
 use Rattle.driver_chunk.proofs.Turning.{known}
 
 -- a project, and the state that the arrays held at first

@@ -1,11 +1,10 @@
 -- An image that is accepted has tables that fit, which are laid out, and a start in order. Assumes nothing.
-use Prim.Native.Nat.{ℕ, _≤_}
+use Prim.Native.Nat.{ℕ}
 use mathlib.Core.Path.{_≡_, refl, sym, ap, _∙_, subst}
 use mathlib.Core.Bool.{true}
 use mathlib.Core.List.{List}
 use lib.Ieee.{Float}
 use lib.ListN.{length}
-use Rattle.model.specs.declared.project.Counts.{Counts}
 use Rattle.model.specs.declared.project.Project.{Project}
 use Rattle.model.specs.declared.state.State.{State}
 use Rattle.judge.specs.Judgement.{inOrder}
@@ -22,7 +21,7 @@ use Rattle.state.proofs.Inside.{controls-inside}
 use Rattle.tank_links.proofs.Judging.{ends-inside}
 use Rattle.calls.specs.Calls.{start}
 use Rattle.calls_sound.proofs.Theorem.{start-in-order}
-use Rattle.driver_tables.specs.Laid.{PartsInside, From, LaidFrom}
+use Rattle.driver_tables.specs.Laid.{PartsInside, LaidFrom}
 use Rattle.driver_tables.specs.declared.Tables.{Tables}
 use Rattle.driver_chunk.specs.Chunks.{RunOf}
 use Rattle.driver_io.specs.Held.{Accepted}

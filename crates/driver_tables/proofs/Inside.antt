@@ -1,7 +1,6 @@
 -- The tables of a project that fits are inside. Assumes nothing.
-use Prim.Native.Nat.{ℕ, _+_, _≤_}
-use mathlib.Core.Path.{_≡_, sym, ap, _∙_, subst}
-use mathlib.Core.List.{List}
+use Prim.Native.Nat.{ℕ}
+use mathlib.Core.Path.{sym, subst}
 use native.Mathlib.Omega.{arith}
 use Rattle.model.specs.declared.project.Project.{Project}
 use Rattle.tables.specs.Fit.{TablesFit}

@@ -6,7 +6,6 @@ use mathlib.Core.List.{List, [], _∷_, _++_}
 use native.Mathlib.Omega.{arith}
 use borrow.Author.Tests.{ne-eqb}
 use lib.Dec.{eqb}
-use lib.Ieee.{Float}
 use lib.ListN.{length, length-append, replicate}
 use lib.Seq.{sets}
 use Rattle.clock.specs.declared.length.Times.{Times}
@@ -17,7 +16,6 @@ use Rattle.model.specs.declared.node.Node.{Node}
 use Rattle.model.specs.declared.options.Options.{Options}
 use Rattle.model.specs.declared.project.Counts.{Counts}
 use Rattle.model.specs.declared.project.Project.{Project}
-use Rattle.tables.specs.Fit.{TablesFit}
 use Rattle.simulation.specs.Steps.{noTanks, onFastPath, hydraulicInForce, timesOf}
 use Rattle.solver.proofs.ByTable.{laid-is}
 use Rattle.run_tables.specs.Chosen.{chosen}
@@ -41,7 +39,6 @@ use Rattle.run_loads.specs.declared.laid.LinkEnds.{LinkEnds}
 use Rattle.tank_links.specs.Groups.{joined, listed}
 use Rattle.tank_links.specs.Laid.{groupIn, beginIn, middleIn}
 use Rattle.driver_tables.specs.declared.LinkGroups.{LinkGroups}
-use Rattle.driver_tables.specs.declared.Tables.{Tables}
 use Rattle.driver_tables.specs.Laid.{PartsInside, GroupsAsked, Grouped, From, Laid, LaidFrom}
 
 -- where no test holds, none is chosen

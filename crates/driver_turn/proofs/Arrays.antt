@@ -1,26 +1,23 @@
 -- A turn over the arrays of a run: what its passes leave in them is what the definitions make of the state that they hold. Assumes nothing.
-use Prim.Native.Nat.{ℕ, _+_, _*_, _≤_, _<_}
+use Prim.Native.Nat.{ℕ, _≤_, _<_}
 use mathlib.Core.Path.{_≡_, refl, sym, ap, _∙_, subst}
-use mathlib.Core.Bool.{Bool, true, false, cond}
 use mathlib.Core.List.{List, map}
 use native.Mathlib.Omega.{arith}
 use borrow.Author.Tests.{ne-eqb}
-use lib.Dec.{eqb}
 use lib.Ieee.{Float}
 use lib.ListN.{length}
 use Rattle.number.specs.Constants.{MAX}
 use Rattle.clock.specs.Steps.{clockTime, stepLength, advanced}
-use Rattle.clock.specs.Triggers.{lengthAt, controlTime}
+use Rattle.clock.specs.Triggers.{lengthAt}
 use Rattle.clock.specs.declared.hand.Clock.{Clock}
-use Rattle.clock.specs.declared.length.Times.{Times}
 use Rattle.clock.proofs.Lengths.{length-positive}
 use Rattle.model.specs.declared.options.Options.{Options}
 use Rattle.model.specs.declared.project.Project.{Project}
 use Rattle.model.specs.declared.state.LinkState.{LinkState}
-use Rattle.model.specs.declared.state.NodeState.{NodeState}
 use Rattle.model.specs.declared.state.State.{State}
 use Rattle.tables.specs.Fit.{TablesFit}
-use Rattle.run_state.specs.Lists.{Links, Lists, headOf, demandOf, demandFlowOf, flowOf, statusOf, settingOf, headsOf, demandsOf, demandFlowsOf, flowsOf, statusesOf, settingsOf, linksOf, listsOf}
+use Rattle.run_state.specs.Lists.{Links, Lists, headOf, demandOf, demandFlowOf, flowOf, statusOf, settingOf, headsOf, demandsOf, statusesOf, linksOf, listsOf}
+use Rattle.run_state.proofs.Apart.{links-made, lists-made}
 use Rattle.run_controls.specs.Apply.{linksAfter}
 use Rattle.run_candidates.specs.Next.{nextTime, nextClock, nextLevel}
 use Rattle.run_patterns.specs.Applying.{Written, Inputs, patternsApplied}
@@ -31,7 +28,7 @@ use Rattle.state.specs.Controls.{applyControls}
 use Rattle.state.specs.Patterns.{applyPatterns}
 use Rattle.state.specs.Tanks.{updateTanks}
 use Rattle.state.proofs.Controlled.{controls-keep-nodes, controls-keep-clock, apply-controls-is}
-use Rattle.state.proofs.InForce.{InForce, apply-patterns-is, in-force-after, controls-force, moving-force, nodes-force}
+use Rattle.state.proofs.InForce.{InForce, apply-patterns-is, moving-force, nodes-force}
 use Rattle.state.proofs.Moved.{move-tanks-is, moved-demands, moved-demand-flows, moved-links}
 use Rattle.state.proofs.Patterned.{periodOf, InputsLaid, Holds, patterned-links, patterned-clock}
 use Rattle.solver.specs.ByTable.{listsClosed}
@@ -44,16 +41,6 @@ use Rattle.simulation.proofs.ControlTime.{control-time-same}
 use Rattle.simulation.proofs.TankTime.{tank-time-same}
 use Rattle.driver_tables.specs.Laid.{Laid}
 use Rattle.driver_tables.specs.declared.Tables.{Tables}
-
-made : {h h' d d' f f' : List Float} {l l' : Links} {k k' : Clock} → h ≡ h' → d ≡ d' → f ≡ f' → l ≡ l' → k ≡ k'
-    → _≡_ {A = Lists}
-    (record { heads = h; demands = d; demand-flows = f; links = l; clock = k })
-    (record { heads = h'; demands = d'; demand-flows = f'; links = l'; clock = k' })
-made a b c d e = rw (a, b, c, d, e)
-
-links-made : {a a' c c' : List Float} {b b' : List ℕ} → a ≡ a' → b ≡ b' → c ≡ c'
-    → _≡_ {A = Links} (record { flows = a; statuses = b; settings = c }) (record { flows = a'; statuses = b'; settings = c' })
-links-made a b c = rw (a, b, c)
 
 -- the patterns' inputs, of the tables
 abbrev pub inputsOf : Tables → List Float → Inputs
@@ -142,7 +129,7 @@ module _ {p : Project} {t : Tables} (laid : Laid p t) (fit : TablesFit p) where
       → controlled t (w .heads) (a .clock .instant) (a .links) ≡ l
       → record { heads = w .heads; demands = w .demands; demand-flows = w .flows; links = l; clock = a .clock } ≡ listsOf (applyControls p (applyPatterns p s))
   controlled-lists s a w {l} e h q =
-      made
+      lists-made
       (sym (h .head) ∙ ap (map headOf) (sym nodes))
       (sym (h .demand) ∙ ap (map demandOf) (sym nodes))
       (sym (h .demand-flow) ∙ ap (map demandFlowOf) (sym nodes))
@@ -220,7 +207,7 @@ module _ {p : Project} {t : Tables} (laid : Laid p t) (fit : TablesFit p) where
       length = length-is;
       clock = sym clock-is;
       held = rw (length-is, ne-eqb seconds 0 (λ z. omega (arith, positive, z)))
-          (made
+          (lists-made
           (moves ∙ rw (demands-are, heads-are) (move-tanks-is p (laid .tanks) u seconds))
           (demands-are ∙ sym (moved-demands p u seconds))
           (ap (λ (x : Lists). x .demand-flows) e ∙ ap (λ (x : Lists). x .demand-flows) all ∙ sym (moved-demand-flows p u seconds))

@@ -1,32 +1,29 @@
 -- A load out of the bytes that are left, taken into the arrays of a run, is document 01's load of the state that they hold. Assumes nothing.
-use Prim.Native.Nat.{ℕ, _+_, _*_, _≤_, _<_}
+use Prim.Native.Nat.{ℕ, _+_}
 use mathlib.Core.Path.{_≡_, refl, sym, ap, _∙_, subst}
-use mathlib.Core.Bool.{true, cond}
+use mathlib.Core.Bool.{true}
 use mathlib.Core.List.{List}
 use native.Mathlib.Omega.{arith}
 use borrow.Author.Tests.{ne-eqb}
-use lib.Ieee.{Float}
 use lib.ListN.{length}
-use Rattle.clock.specs.declared.hand.Clock.{Clock}
 use Rattle.words.specs.Words.{firstWords}
 use Rattle.model.specs.declared.project.Project.{Project}
 use Rattle.model.specs.declared.state.State.{State}
 use Rattle.judge.specs.Judgement.{inOrder}
 use Rattle.tables.specs.Fit.{TablesFit}
-use Rattle.run_state.specs.Lists.{Links, Lists, linksOf, listsOf}
+use Rattle.run_state.specs.Lists.{Lists, listsOf}
 use Rattle.run_loads.specs.Taking.{faultOf}
-use Rattle.load.specs.ByTable.{listsLoaded}
 use Rattle.load.specs.Loads.{valueCount, loadFault, takeLoad}
 use Rattle.load.proofs.ByTable.{take-load-is}
 use Rattle.load.proofs.InForce.{load-force}
 use Rattle.load.proofs.Loaded.{load-keeps-clock}
 use Rattle.load.proofs.Values.{values-are, load-fault-is}
 use Rattle.state.proofs.InForce.{InForce}
-use Rattle.calls.specs.Calls.{gives, load}
+use Rattle.calls.specs.Calls.{load}
 use Rattle.calls.specs.declared.Called.{Called}
 use Rattle.calls_sound.proofs.Theorem.{load-in-order}
-use Rattle.driver_load.specs.Left.{Arrays, Judged, faulty, fine, LoadedAs, none, cut, whole, taking, wordsFor}
-use Rattle.driver_load.specs.Sizes.{loadWords, loadBytes}
+use Rattle.driver_load.specs.Left.{Arrays, faulty, fine, LoadedAs, none, cut, whole, taking, wordsFor}
+use Rattle.driver_load.specs.Sizes.{loadWords}
 use Rattle.driver_load.specs.declared.Loaded.{Loaded}
 use Rattle.driver_load.proofs.Inner.{load-inner}
 use Rattle.driver_tables.specs.Laid.{Laid}

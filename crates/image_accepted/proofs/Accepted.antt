@@ -1,13 +1,13 @@
 -- An accepted image's tables pass `tablesOk`: the walk keeps the tables' tests, options are read before anything else, and the default pattern is judged at
 -- the end. Assumes nothing.
-use Prim.Native.Nat.{ℕ, zero, suc, _≤_, _<_}
-use mathlib.Core.Path.{_≡_, refl, sym, _∙_}
+use Prim.Native.Nat.{ℕ, zero, suc, _≤_}
+use mathlib.Core.Path.{_≡_, refl}
 use mathlib.Core.Bool.{Bool, true, false, _&&_, cond}
 use mathlib.Core.List.{List, [], _∷_}
 use native.Mathlib.Omega.{arith}
 use borrow.Author.Tests.{leb-true, eqb-true, eqb-false}
 use lib.Dec.{leb, eqb}
-use lib.ListN.{length, getD}
+use lib.ListN.{length}
 use Rattle.model.specs.Blank.{emptyProject}
 use Rattle.model.specs.declared.project.Project.{Project}
 use Rattle.model.proofs.Loops.{both-left, both-right}

@@ -5,13 +5,12 @@ use mathlib.Core.List.{List}
 use native.Mathlib.Omega.{arith}
 use lib.Ieee.{Float}
 use lib.ListN.{length}
-use Rattle.clock.specs.declared.hand.Clock.{Clock}
 use Rattle.model.specs.declared.project.Project.{Project}
 use Rattle.model.specs.declared.state.State.{State}
 use Rattle.run_loads.specs.Laid.{junctionIn, EndsLaid, MarksLaid}
 use Rattle.run_loads.specs.Taking.{JunctionsInside, LinksInside, flowsTaken, headsTaken, inflowsSummed}
-use Rattle.run_state.specs.Lists.{Lists, Links, headsOf, demandsOf, demandFlowsOf, flowsOf, statusesOf, settingsOf, listsOf, NodesHold, LinksHold}
-use Rattle.run_state.proofs.Apart.{same-state, packed}
+use Rattle.run_state.specs.Lists.{headsOf, demandsOf, demandFlowsOf, flowsOf, statusesOf, settingsOf, listsOf, NodesHold, LinksHold}
+use Rattle.run_state.proofs.Apart.{same-state, lists-made, packed}
 use Rattle.run_tables.specs.Held.{Pushed, TanksLaid}
 use Rattle.run_tables.proofs.TankRows.{pushed-at}
 use Rattle.run_tanks.specs.Emptying.{tanksEmptied}
@@ -38,10 +37,6 @@ module _ {p : Project} (fit : TablesFit p) where
   }
 
 -- ---- the lists
-made : {h h' d d' f f' : List Float} {a a' : Links} {k k' : Clock} → h ≡ h' → d ≡ d' → f ≡ f' → a ≡ a' → k ≡ k'
-    → _≡_ {A = Lists} (record { heads = h; demands = d; demand-flows = f; links = a; clock = k }) (record { heads = h'; demands = d'; demand-flows = f'; links = a'; clock = k' })
-made a b c d e = rw (a, b, c, d, e)
-
 pub take-load-is :
     {p : Project} {junctions starts ends nodes tanks overflows : List ℕ} {numbers : List Float} {m n : ℕ} → TablesFit p
     → Pushed (junctionIn (p .nodes)) (p .counts .nodes) junctions m → EndsLaid (p .links) (p .counts .links) starts ends
@@ -49,7 +44,7 @@ pub take-load-is :
     → (words : List ℕ) (s : State) → length (s .nodes) ≡ 256
     → listsLoaded words junctions m starts ends (p .counts .links) nodes n tanks s ≡ listsOf (takeLoad p words s)
 take-load-is {p} fit laid ends tables marks words s long =
-    made (take-heads-is p laid words s) (sum-inflows-is fit words s long ends marks tables) (sym (load-keeps-demand-flows p words s)) (take-flows-is p words s) (sym (load-keeps-clock p words s))
+    lists-made (take-heads-is p laid words s) (sum-inflows-is fit words s long ends marks tables) (sym (load-keeps-demand-flows p words s)) (take-flows-is p words s) (sym (load-keeps-clock p words s))
 
 pub loaded-by-is :
     {p : Project} {junctions starts ends nodes tanks overflows : List ℕ} {numbers : List Float} {m n : ℕ} → TablesFit p
@@ -69,4 +64,4 @@ pub loaded-lists :
     → NodesHold (r .nodes) heads' demands' demand-flows → LinksHold (r .links) flows' statuses settings → r .clock ≡ s .clock
     → listsOf r ≡ listsLoaded words junctions m starts ends l nodes n tanks s
 loaded-lists words junctions m starts ends l nodes n tanks s r h d f a b c qa qh qe qd x y k =
-    packed r {ls = record { flows = _; statuses = _; settings = _ }} x y ∙ made (rw (qh, h)) (rw (qd, qe, qa, a, d)) f (rw (qa, a, b, c)) k
+    packed r {ls = record { flows = _; statuses = _; settings = _ }} x y ∙ lists-made (rw (qh, h)) (rw (qd, qe, qa, a, d)) f (rw (qa, a, b, c)) k

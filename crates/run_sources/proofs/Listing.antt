@@ -1,7 +1,7 @@
 -- Entry j of a node's demands, where they are fewer than four. Assumes nothing.
 use Prim.Native.Nat.{ℕ, zero, suc}
 use mathlib.Core.Path.{_≡_, refl, sym, ap, _∙_}
-use mathlib.Core.List.{List, [], _∷_}
+use mathlib.Core.List.{[], _∷_}
 use lib.ListN.{getD}
 use Rattle.model.specs.declared.node.Demand.{Demand}
 use Rattle.model.specs.declared.node.Demands.{Demands}

@@ -1,6 +1,6 @@
 -- A state is determined by its lists and its clock. Assumes nothing.
 use Prim.Native.Nat.{ℕ}
-use mathlib.Core.Path.{_≡_, sym, ap, _∙_}
+use mathlib.Core.Path.{_≡_, refl, sym, ap, _∙_}
 use mathlib.Core.List.{List, map}
 use lib.Ieee.{Float}
 use lib.ListN.{getD, length, length-map, List·getD-map}
@@ -58,25 +58,24 @@ same-state s t e =
     (links (s .links) (t .links) (ap (λ (x : Lists). x .links .flows) e) (ap (λ (x : Lists). x .links .statuses) e) (ap (λ (x : Lists). x .links .settings) e))
     (ap (λ (x : Lists). x .clock) e)
 
+-- ---- lists with the same parts
+pub links-made : {a a' c c' : List Float} {b b' : List ℕ} → a ≡ a' → b ≡ b' → c ≡ c'
+    → _≡_ {A = Links} (record { flows = a; statuses = b; settings = c }) (record { flows = a'; statuses = b'; settings = c' })
+links-made a b c = rw (a, b, c)
+
+pub lists-made : {h h' d d' f f' : List Float} {l l' : Links} {k k' : Clock} → h ≡ h' → d ≡ d' → f ≡ f' → l ≡ l' → k ≡ k'
+    → _≡_ {A = Lists}
+    (record { heads = h; demands = d; demand-flows = f; links = l; clock = k })
+    (record { heads = h'; demands = d'; demand-flows = f'; links = l'; clock = k' })
+lists-made a b c d e = rw (a, b, c, d, e)
+
 -- a state whose parts hold the arrays
 pub packed : (s : State) {heads demands flows : List Float} {ls : Links}
     → NodesHold (s .nodes) heads demands flows → LinksHold (s .links) (ls .flows) (ls .statuses) (ls .settings)
     → listsOf s ≡ record { heads = heads; demands = demands; demand-flows = flows; links = ls; clock = s .clock }
-packed s {heads} {demands} {flows} {ls} n l = made (n .head) (n .demand) (n .demand-flow) (l .flow) (l .status) (l .setting)
-  where
-    made : {h h' d d' f f' a a' c c' : List Float} {b b' : List ℕ} → h ≡ h' → d ≡ d' → f ≡ f' → a ≡ a' → b ≡ b' → c ≡ c'
-        → _≡_ {A = Lists}
-        (record { heads = h; demands = d; demand-flows = f; links = record { flows = a; statuses = b; settings = c }; clock = s .clock })
-        (record { heads = h'; demands = d'; demand-flows = f'; links = record { flows = a'; statuses = b'; settings = c' }; clock = s .clock })
-    made a b c d e f = rw (a, b, c, d, e, f)
+packed s n l = lists-made (n .head) (n .demand) (n .demand-flow) (links-made (l .flow) (l .status) (l .setting)) refl
 
 -- the lists of a state t that differs from s in its links alone
 pub links-changed : (s t : State) {ls : Links} → ls ≡ linksOf t → t .nodes ≡ s .nodes → t .clock ≡ s .clock
     → record { heads = headsOf s; demands = demandsOf s; demand-flows = demandFlowsOf s; links = ls; clock = s .clock } ≡ listsOf t
-links-changed s t {ls} l n c = made l (sym n) (sym c)
-  where
-    made : {a a' : Links} {x x' : List NodeState} {k k' : Clock} → a ≡ a' → x ≡ x' → k ≡ k'
-        → _≡_ {A = Lists}
-        (record { heads = map headOf x; demands = map demandOf x; demand-flows = map demandFlowOf x; links = a; clock = k })
-        (record { heads = map headOf x'; demands = map demandOf x'; demand-flows = map demandFlowOf x'; links = a'; clock = k' })
-    made a b c = rw (a, b, c)
+links-changed s t l n c = lists-made (ap (map headOf) (sym n)) (ap (map demandOf) (sym n)) (ap (map demandFlowOf) (sym n)) l (sym c)

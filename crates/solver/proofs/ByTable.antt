@@ -7,7 +7,6 @@ use native.Mathlib.Omega.{arith}
 use lib.Ieee.{Float}
 use lib.ListN.{getD, length, replicate}
 use lib.Seq.{sets, map-set-same}
-use Rattle.clock.specs.declared.hand.Clock.{Clock}
 use Rattle.model.specs.Links.{TempClosed}
 use Rattle.model.specs.Nodes.{isTank}
 use Rattle.model.specs.Blank.{nodeAt, nodeStateAt, linkStateAt, blankNodeState, blankLinkState}
@@ -24,8 +23,8 @@ use Rattle.run_tables.specs.Chosen.{chosen}
 use Rattle.run_tables.specs.Held.{Part, TanksLaid}
 use Rattle.run_tables.proofs.Listed.{chosen-at}
 use Rattle.run_tables.proofs.Inside.{laid-pushed}
-use Rattle.run_state.specs.Lists.{Lists, headOf, demandFlowOf, settingOf, headsOf, demandsOf, demandFlowsOf, flowsOf, statusesOf, settingsOf, listsOf, NodesHold, LinksHold}
-use Rattle.run_state.proofs.Apart.{same-state}
+use Rattle.run_state.specs.Lists.{headOf, demandFlowOf, settingOf, headsOf, demandsOf, demandFlowsOf, flowsOf, statusesOf, settingsOf, listsOf, NodesHold, LinksHold}
+use Rattle.run_state.proofs.Apart.{same-state, links-made, lists-made}
 use Rattle.tank_links.specs.Groups.{endsAt, startsAt, linksInto, tankCount, tankNode, begin, joined, listed, isLaidOut}
 use Rattle.tank_links.specs.Laid.{groupIn, beginIn, middleIn, GroupLaid, GroupsLaid}
 use Rattle.tank_links.proofs.Judging.{Stands, groups-stand, groups-fit, next-begin, laid-into-zeros, begins-are, middles-are, entries-are}
@@ -147,12 +146,6 @@ module _ (p : Project) (s : State) where
       kept (λ (v : State). v .clock) (nodeSummed p (closeLinks p s)) (closeLinks p s) (λ i v. refl) (p .counts .nodes)
       ∙ kept (λ (v : State). v .clock) (linkClosed p) s (λ i v. refl) (p .counts .links)
 
-made : {h h' d d' f f' a a' c c' : List Float} {b b' : List ℕ} {k k' : Clock} → h ≡ h' → d ≡ d' → f ≡ f' → a ≡ a' → b ≡ b' → c ≡ c' → k ≡ k'
-    → _≡_ {A = Lists}
-    (record { heads = h; demands = d; demand-flows = f; links = record { flows = a; statuses = b; settings = c }; clock = k })
-    (record { heads = h'; demands = d'; demand-flows = f'; links = record { flows = a'; statuses = b'; settings = c' }; clock = k' })
-made a b c d e f g = rw (a, b, c, d, e, f, g)
-
 -- ---- what the passes leave, packed
 pub closed-lists :
     (nodes : List ℕ) (numbers : List Float) (overflows : List ℕ) (begins middles links : List ℕ) (n : ℕ) (s r : State) {heads demands demand-flows flows settings demands' : List Float} {statuses statuses' : List ℕ}
@@ -161,7 +154,7 @@ pub closed-lists :
     → demands' ≡ demandsSummed nodes begins middles links n flows demands
     → NodesHold (r .nodes) heads demands' demand-flows → LinksHold (r .links) flows statuses' settings → r .clock ≡ s .clock
     → listsOf r ≡ listsClosed nodes numbers overflows begins middles links n s
-closed-lists nodes numbers overflows begins middles links n s r h d g f t u a b x y k = made (x .head ∙ h) (x .demand ∙ b ∙ rw (f, d)) (x .demand-flow ∙ g) (y .flow ∙ f) (y .status ∙ a ∙ rw (h, f, t)) (y .setting ∙ u) k
+closed-lists nodes numbers overflows begins middles links n s r h d g f t u a b x y k = lists-made (x .head ∙ h) (x .demand ∙ b ∙ rw (f, d)) (x .demand-flow ∙ g) (links-made (y .flow ∙ f) (y .status ∙ a ∙ rw (h, f, t)) (y .setting ∙ u)) k
 
 -- ---- closing by the tables
 module _ {p : Project} {nodes begins middles links : List ℕ} {numbers : List Float} {overflows : List ℕ} {n : ℕ}
@@ -169,13 +162,11 @@ module _ {p : Project} {nodes begins middles links : List ℕ} {numbers : List F
     (s : State) (long : length (s .links) ≡ 384) where
   pub lists-closed-is : listsClosed nodes numbers overflows begins middles links n s ≡ listsOf (updateTankLinks p s)
   lists-closed-is =
-      made
+      lists-made
       (sym (heads-kept p s))
       (sum-demands-is laid (groups-laid fit laid there) s)
       (sym (demand-flows-kept p s))
-      (sym (flows-same p s))
-      (close-links-is fit laid (groups-laid fit laid there) s long ∙ sym (statuses-same p s))
-      (sym (settings-kept p s))
+      (links-made (sym (flows-same p s)) (close-links-is fit laid (groups-laid fit laid there) s long ∙ sym (statuses-same p s)) (sym (settings-kept p s)))
       (sym (clock-kept p s))
 
   pub closed-by-is : (r : State) → listsOf r ≡ listsClosed nodes numbers overflows begins middles links n s → r ≡ updateTankLinks p s

@@ -8,7 +8,6 @@ use lib.Ieee.{Float, nan}
 use lib.ListN.{getD, set, length, length-map, List·getD-map}
 use lib.Seq.{set-getD, map-set-same}
 use Rattle.number.specs.Operators.{_·_}
-use Rattle.clock.specs.declared.hand.Clock.{Clock}
 use Rattle.model.specs.Blank.{nodeAt, nodeStateAt, blankNodeState}
 use Rattle.model.specs.Loops.{through}
 use Rattle.model.specs.Nodes.{elevation, elevationOf}
@@ -28,8 +27,8 @@ use Rattle.run_patterns.specs.Applying.{Written, Inputs, filled}
 use Rattle.run_patterns.specs.Filling.{demandPut, demandSum, demandsFilled, headPut, headsFilled, demandCopied, demandsCopied}
 use Rattle.run_sources.specs.Lengths.{LengthsLaid}
 use Rattle.run_sources.specs.Sources.{DemandsLaid, headPattern, isPattern, patternedIn, HeadsLaid}
-use Rattle.run_state.specs.Lists.{Lists, Links, NodesHold, headOf, demandOf, demandFlowOf, headsOf, demandsOf, demandFlowsOf, flowOf, statusOf, settingOf}
-use Rattle.run_state.proofs.Apart.{same-state}
+use Rattle.run_state.specs.Lists.{NodesHold, headOf, demandOf, demandFlowOf, headsOf, demandsOf, demandFlowsOf, flowOf, statusOf, settingOf}
+use Rattle.run_state.proofs.Apart.{same-state, lists-made}
 use Rattle.run_tables.specs.Chosen.{chosen}
 use Rattle.run_tables.proofs.Along.{chosen-along, held-along}
 use Rattle.run_tables.proofs.Listed.{chosen-at}
@@ -198,17 +197,11 @@ module _ (p : Project) (s : State) where
   patterned-clock = kept (λ (v : State). v .clock) (nodePatterned p (multiplierOf p (periodOf p s))) s (λ i v. refl) (p .counts .nodes)
 
 -- ---- what the passes leave, packed
-made : {h h' d d' f f' : List Float} {l l' : Links} {k k' : Clock} → h ≡ h' → d ≡ d' → f ≡ f' → l ≡ l' → k ≡ k'
-    → _≡_ {A = Lists}
-    (record { heads = h; demands = d; demand-flows = f; links = l; clock = k })
-    (record { heads = h'; demands = d'; demand-flows = f'; links = l'; clock = k' })
-made a b c d e = rw (a, b, c, d, e)
-
 pub patterns-packed : (p : Project) {t : Inputs} (w : Written) {u : Written} (s r : State) → InputsLaid p t → Holds s w → length (w .table) ≡ 33 → p .counts .nodes ≤ length (s .nodes)
     → filled t (s .clock .instant) w ≡ u → Holds r u → r .links ≡ s .links → r .clock ≡ s .clock → r ≡ applyPatterns p s
 patterns-packed p w s r laid before long room e n l k =
     let h = subst (Holds (applyPatterns p s)) e (filled-is s w laid before long room) in
     same-state r (applyPatterns p s)
-    (made (n .head ∙ sym (h .head)) (n .demand ∙ sym (h .demand)) (n .demand-flow ∙ sym (h .demand-flow))
+    (lists-made (n .head ∙ sym (h .head)) (n .demand ∙ sym (h .demand)) (n .demand-flow ∙ sym (h .demand-flow))
     (ap (λ (x : List LinkState). record { flows = map flowOf x; statuses = map statusOf x; settings = map settingOf x }) (l ∙ sym (patterned-links p s)))
     (k ∙ sym (patterned-clock p s)))

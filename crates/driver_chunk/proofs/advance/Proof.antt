@@ -1,21 +1,17 @@
 -- `driver_chunk::advance` meets its contract: the invariant are the turns so far, of every project that tables and state are of. Assumes nothing.
-use Prim.Native.Nat.{ℕ, _+_, _-_, _*_, _≤_}
+use Prim.Native.Nat.{_-_, _≤_}
 use mathlib.Core.Bool.{true}
 use mathlib.Core.Path.{_≡_, sym, ap, _∙_}
 use native.Mathlib.Omega.{arith}
 use lib.ListN.{length}
-use Rattle.clock.specs.declared.hand.Clock.{Clock}
 use Rattle.model.specs.declared.project.Project.{Project}
-use Rattle.model.specs.declared.state.State.{State}
 use Rattle.model.proofs.Each.{mapped}
 use Rattle.judge.specs.Judgement.{inOrder}
-use Rattle.run_state.specs.Lists.{Lists}
 use Rattle.run_patterns.specs.Applying.{Written}
 use Rattle.driver_load.proofs.Inner.{fit}
 use Rattle.driver_tables.specs.Laid.{Laid, TablesInside}
 use Rattle.driver_tables.proofs.Inside.{tables-inside}
 use Rattle.driver_turn.proofs.Made.{table-kept}
-use Rattle.driver_chunk.specs.Chunks.{canTurn}
 use Rattle.driver_chunk.proofs.Going.{going-length}
 use Rattle.driver_chunk.proofs.Turns.{Begins, Turns, AllTurns, lists, held-at-first, taken-inside, turns-begun, turns-ended, turns-finished, turns-refused, turns-less, turns-step, can-now, late-now}
 use borrow.Author.Needs.{needs}

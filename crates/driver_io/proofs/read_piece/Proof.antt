@@ -1,8 +1,6 @@
 -- `driver_io::read_piece` meets its contract. Assumes nothing.
-use mathlib.Core.Path.{sym, _∙_}
-use native.Mathlib.Omega.{arith}
-use lib.ListN.{length-append}
-use lib.Seq.{length-take-le, length-front}
+use mathlib.Core.Path.{sym}
+use lib.Seq.{length-take-le}
 use borrow.Author.Needs.{needs}
 use Rattle.driver_io.proofs.read_piece.Statement.{statement}
 use Rattle.driver_io.proofs.read_piece.Tie as tie

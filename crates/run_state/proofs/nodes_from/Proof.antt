@@ -1,12 +1,11 @@
 -- `run_state::nodes_from` meets its contract. Assumes nothing.
-use Prim.Native.Nat.{_-_, _<_}
+use Prim.Native.Nat.{_-_}
 use mathlib.Core.Path.{refl}
 use native.Mathlib.Omega.{arith}
 use lib.ListN.{getD}
 use borrow.Author.Needs.{needs}
 use lib.Ieee.{nan, binary64}
-use borrow.Kind.Array.{eFloat, eInt, good-length}
-use mir.Syntax.{w32}
+use borrow.Kind.Array.{eFloat, good-length}
 use Rattle.model.specs.Blank.{blankNodeState, blankState}
 use Rattle.run_state.specs.Lists.{headOf, demandOf, demandFlowOf}
 use Rattle.run_state.proofs.Filled.{Filled, fill-none, fill, full-map}
