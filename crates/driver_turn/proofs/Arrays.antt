@@ -37,8 +37,8 @@ use Rattle.solver.proofs.ByTable.{lists-closed-is}
 use Rattle.solver.proofs.InForce.{closing-force}
 use Rattle.simulation.specs.Steps.{timesOf, triggersOf, momentOf, lengthOf, movedBy, nextHydraulicTimestep}
 use Rattle.simulation.proofs.Accepted.{accepted-times}
-use Rattle.simulation.proofs.ControlTime.{control-time-same}
-use Rattle.simulation.proofs.TankTime.{tank-time-same}
+use Rattle.simulation.proofs.ControlTime.{control-time-held}
+use Rattle.simulation.proofs.TankTime.{tank-time-held}
 use Rattle.driver_tables.specs.Laid.{Laid}
 use Rattle.driver_tables.specs.declared.Tables.{Tables}
 
@@ -190,10 +190,10 @@ module _ {p : Project} {t : Tables} (laid : Laid p t) (fit : TablesFit p) where
         (nextClock (t .«clock_calls» .seconds) (t .«clock_calls» .count) (clockTime (timesOf p .«start_clock») (a .clock .instant))
         (nextTime (t .«time_calls» .seconds) (t .«time_calls» .count) (a .clock .instant)
         (nextLevel (t .levels .tanks) (t .levels .targets) (t .levels .count) (t .tanks .nodes) (t .tanks .numbers) (t .tanks .overflows) (a .heads) demands MAX)))
-        (a .clock .instant)) (tank-time-same p (laid .tanks) u heads-are demands-are refl)
+        (a .clock .instant)) (tank-time-held p (laid .tanks) u heads-are demands-are refl)
         ∙ rw clock-is
         (ap (λ (x : ℕ). stepLength (timesOf p) (momentOf p u .tank) x (u .clock .instant))
-        (control-time-same fit (laid .tanks) u (laid .time-calls) (laid .clock-calls) (laid .levels) heads-are demands-are (rw (start-is p)) refl refl refl))))
+        (control-time-held fit (laid .tanks) u (laid .time-calls) (laid .clock-calls) (laid .levels) heads-are demands-are (rw (start-is p)) refl refl refl))))
 
     positive : 0 < seconds
     unfolding lengthOf

@@ -102,11 +102,11 @@ module _ {p : Project} (fit : TablesFit p) {nodes : List ℕ} {numbers : List Fl
       levels-are = loop-is (momentOf p s .level) (λ i. wait (getD tanks i 0) (getD nodes (getD tanks i 0) 0) (getD targets i nan)) xs noLevel MAX l (hl .many) each
 
   -- the same of what a caller has of each
-  pub control-time-same : {times clocks tanks : List ℕ} {targets heads demands : List Float} {t c l clock level timed r : ℕ}
+  pub control-time-held : {times clocks tanks : List ℕ} {targets heads demands : List Float} {t c l clock level timed r : ℕ}
       → Laid times t (timesIn (triggersIn (p .controls) (p .counts .controls))) → Laid clocks c (clocksIn (triggersIn (p .controls) (p .counts .controls)))
       → LevelsLaid (p .controls) (p .counts .controls) nodes m tanks targets l
       → heads ≡ headsOf s → demands ≡ demandsOf s → clock ≡ clockTime (p .options .«start_clock») (s .clock .instant)
       → level ≡ nextLevel tanks targets l nodes numbers overflows heads demands MAX → timed ≡ nextTime times t (s .clock .instant) level
       → r ≡ nextClock clocks c clock timed
       → r ≡ controlTime (timesOf p) (triggersOf p) (momentOf p s) (s .clock .instant)
-  control-time-same ht hc hl h d k a b e = rw (e, b, a, k, d, h) (control-time-is ht hc hl)
+  control-time-held ht hc hl h d k a b e = rw (e, b, a, k, d, h) (control-time-is ht hc hl)

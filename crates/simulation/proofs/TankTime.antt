@@ -70,8 +70,8 @@ tank-time-is p {nodes} {numbers} {overflows} {n} laid s =
     ∙ sym (tanks-only p s ∙ chosen-cond (λ i. isTank (nodeAt p i)) (p .counts .nodes) (smallerTank p s) MAX)
 
 -- the same of what a caller has of each
-pub tank-time-same :
+pub tank-time-held :
     (p : Project) {nodes : List ℕ} {numbers : List Float} {overflows : List ℕ} {n : ℕ} → TanksLaid (p .nodes) (p .counts .nodes) nodes numbers overflows n
     → (s : State) {heads demands : List Float} {r : ℕ} → heads ≡ headsOf s → demands ≡ demandsOf s → r ≡ tankTimeOf nodes numbers overflows n heads demands
     → r ≡ tankTime p s
-tank-time-same p laid s h d e = rw (e, d, h) (tank-time-is p laid s)
+tank-time-held p laid s h d e = rw (e, d, h) (tank-time-is p laid s)
