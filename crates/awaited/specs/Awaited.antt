@@ -7,7 +7,7 @@ use Rattle.clock.specs.Triggers.{Trigger, atTime, atClock, atLevel, untimed}
 use Rattle.model.specs.Loops.{through}
 use Rattle.model.specs.declared.control.Control.{Control}
 use Rattle.control.specs.Controls.{Level}
-pub use Rattle.run_candidates.specs.Triggers.{triggerIn, triggersIn}
+pub use Rattle.run_kinds.specs.Triggers.{triggerIn, triggersIn}
 use Rattle.awaited.specs.declared.Awaited.{Awaited}
 
 -- no instant of a run, and no clock time

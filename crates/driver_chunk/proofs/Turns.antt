@@ -24,7 +24,7 @@ use Rattle.tables.specs.Fit.{TablesFit}
 use Rattle.run_state.specs.Lists.{Links, Lists, headOf, demandOf, demandFlowOf, flowOf, statusOf, settingOf, listsOf}
 use Rattle.run_state.proofs.Apart.{same-state}
 use Rattle.run_controls.specs.Apply.{linksAfter}
-use Rattle.run_patterns.specs.Applying.{Written, patternsApplied}
+use Rattle.run_periods.specs.Applying.{Written, patternsApplied}
 use Rattle.state.proofs.InForce.{none-in-force}
 use Rattle.state.proofs.Patterned.{periodOf}
 use Rattle.calls_sound.proofs.Theorem.{state-of}

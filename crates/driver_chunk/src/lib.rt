@@ -15,7 +15,7 @@ use driver_turn::step;
 use model::*;
 use number::constants::MAX;
 use run_controls::apply_controls;
-use run_patterns::apply_patterns;
+use run_periods::apply_patterns;
 use run_state::*;
 
 // The state after the turns; how many bytes of the input they took and of the buffer they filled; whether the run is over; and how many bytes the

@@ -10,8 +10,8 @@ use Rattle.load.proofs.Values.{values-are, values-most-fit}
 use Rattle.solver.proofs.ByTable.{groups-inside}
 use Rattle.run_tables.proofs.Inside.{tanks-inside}
 use Rattle.tank_links.proofs.Judging.{stands}
-use Rattle.run_candidates.proofs.Listing.{times, clocks, laid-few}
-use Rattle.run_candidates.proofs.Standing.{levels-inside, levels-laid-few}
+use Rattle.run_kinds.proofs.Listing.{times, clocks, laid-few}
+use Rattle.run_kinds.proofs.Standing.{levels-inside, levels-laid-few}
 use Rattle.run_sources.proofs.Inside.{demands-inside, heads-inside}
 use Rattle.run_sources.specs.Sources.{DemandsInside}
 use Rattle.run_loads.specs.Taking.{JunctionsInside, LinksInside}

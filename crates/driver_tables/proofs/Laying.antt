@@ -22,20 +22,20 @@ use Rattle.run_tables.specs.Chosen.{chosen}
 use Rattle.run_tables.specs.Held.{Pushed, TanksLaid}
 use Rattle.run_tables.specs.declared.tanks.TankTable.{TankTable}
 use Rattle.run_tables.proofs.Inside.{tanks-inside, tanks-distinct}
-use Rattle.run_controls.specs.Rows.{RowsLaid}
-use Rattle.run_controls.specs.declared.rows.ControlTable.{ControlTable}
-use Rattle.run_candidates.specs.Calls as calls
-use Rattle.run_candidates.specs.Levels.{LevelsLaid}
-use Rattle.run_candidates.specs.Triggers.{triggersIn}
-use Rattle.run_candidates.specs.declared.levels.Levels.{Levels}
-use Rattle.run_candidates.specs.declared.times.Seconds.{Seconds}
+use Rattle.run_rows.specs.Rows.{RowsLaid}
+use Rattle.run_rows.specs.declared.rows.ControlTable.{ControlTable}
+use Rattle.run_kinds.specs.Calls as calls
+use Rattle.run_kinds.specs.Levels.{LevelsLaid}
+use Rattle.run_kinds.specs.Triggers.{triggersIn}
+use Rattle.run_kinds.specs.declared.levels.Levels.{Levels}
+use Rattle.run_kinds.specs.declared.times.Seconds.{Seconds}
 use Rattle.run_sources.specs.Lengths.{LengthsLaid}
 use Rattle.run_sources.specs.Sources.{DemandsLaid, HeadsLaid}
 use Rattle.run_sources.specs.declared.demands.DemandTable.{DemandTable}
 use Rattle.run_sources.specs.declared.heads.HeadTable.{HeadTable}
-use Rattle.run_loads.specs.Laid.{junctionIn, EndsLaid, MarksLaid}
-use Rattle.run_loads.specs.declared.laid.JunctionNodes.{JunctionNodes}
-use Rattle.run_loads.specs.declared.laid.LinkEnds.{LinkEnds}
+use Rattle.run_load_tables.specs.Laid.{junctionIn, EndsLaid, MarksLaid}
+use Rattle.run_load_tables.specs.declared.laid.JunctionNodes.{JunctionNodes}
+use Rattle.run_load_tables.specs.declared.laid.LinkEnds.{LinkEnds}
 use Rattle.tank_links.specs.Groups.{joined, listed}
 use Rattle.tank_links.specs.Laid.{groupIn, beginIn, middleIn}
 use Rattle.driver_tables.specs.declared.LinkGroups.{LinkGroups}

@@ -15,15 +15,15 @@ use Rattle.tables.specs.Fit.{TablesFit}
 use Rattle.tables.specs.Tables.{Few}
 use Rattle.simulation.specs.Steps.{timesOf}
 use Rattle.run_tables.specs.Held.{Pushed, TanksInside, Distinct, TanksLaid}
-use Rattle.run_controls.specs.Rows.{ControlsInside, RowsInside, RowsLaid}
-use Rattle.run_candidates.specs.Calls as calls
-use Rattle.run_candidates.specs.Levels.{LevelsLaid, LevelsInside}
-use Rattle.run_candidates.specs.Triggers.{triggersIn}
+use Rattle.run_rows.specs.Rows.{ControlsInside, RowsInside, RowsLaid}
+use Rattle.run_kinds.specs.Calls as calls
+use Rattle.run_kinds.specs.Levels.{LevelsLaid, LevelsInside}
+use Rattle.run_kinds.specs.Triggers.{triggersIn}
 use Rattle.run_sources.specs.Lengths.{LengthsLaid}
 use Rattle.run_sources.specs.Sources.{DemandsLaid, HeadsLaid, DemandsInside, HeadsInside}
-use Rattle.run_tanks.specs.Closing.{GroupsInside}
+use Rattle.run_closing.specs.Closing.{GroupsInside}
 use Rattle.run_loads.specs.Taking.{JunctionsInside, LinksInside}
-use Rattle.run_loads.specs.Laid.{junctionIn, EndsLaid, MarksLaid}
+use Rattle.run_load_tables.specs.Laid.{junctionIn, EndsLaid, MarksLaid}
 use Rattle.tank_links.specs.Groups.{joined, listed, isLaidOut}
 use Rattle.tank_links.specs.Laid.{EndsInside, groupIn, beginIn, middleIn}
 use Rattle.driver_tables.specs.declared.LinkGroups.{LinkGroups}

@@ -20,8 +20,8 @@ use Rattle.run_state.specs.Lists.{Links, Lists, headOf, demandOf, demandFlowOf,
 use Rattle.run_state.proofs.Apart.{links-made, lists-made}
 use Rattle.run_controls.specs.Apply.{linksAfter}
 use Rattle.run_candidates.specs.Next.{nextTime, nextClock, nextLevel}
-use Rattle.run_patterns.specs.Applying.{Written, Inputs, patternsApplied}
-use Rattle.run_tanks.specs.Closing.{linksClosed, demandsSummed}
+use Rattle.run_periods.specs.Applying.{Written, Inputs, patternsApplied}
+use Rattle.run_closing.specs.Closing.{linksClosed, demandsSummed}
 use Rattle.run_tanks.specs.Moving.{tankTimeOf, headsAfter}
 use Rattle.tank_links.proofs.Judging.{stands}
 use Rattle.state.specs.Controls.{applyControls}

@@ -20,7 +20,7 @@ use Rattle.judge.specs.Judgement.{inOrder}
 use Rattle.tables.specs.Fit.{TablesFit}
 use Rattle.run_state.specs.Lists.{Links, Lists, listsOf}
 use Rattle.pattern_view.specs.View.{multiplierInForce}
-use Rattle.run_patterns.specs.Applying.{Written, Inputs, filled, emptied, patternsApplied}
+use Rattle.run_periods.specs.Applying.{Written, Inputs, filled, emptied, patternsApplied}
 use Rattle.run_patterns.specs.Filling.{multiplierPut, multipliersFilled}
 use Rattle.state.specs.Controls.{applyControls}
 use Rattle.state.specs.Patterns.{applyPatterns}

@@ -4,9 +4,9 @@ ghost use Prim.Native.Nat.{_≤_};
 ghost use Rattle.clock.specs.Steps.{clockTime, stepLength};
 ghost use Rattle.number.specs.Constants as constants;
 ghost use Rattle.run_tables.specs.Held.{TanksInside};
-ghost use Rattle.run_candidates.specs.Levels.{LevelsInside};
+ghost use Rattle.run_kinds.specs.Levels.{LevelsInside};
 ghost use Rattle.run_candidates.specs.Next.{nextTime, nextClock, nextLevel};
-ghost use Rattle.run_tanks.specs.Closing.{GroupsInside, linksClosed, demandsSummed};
+ghost use Rattle.run_closing.specs.Closing.{GroupsInside, linksClosed, demandsSummed};
 ghost use Rattle.run_tanks.specs.Moving.{tankTimeOf, headsAfter};
 use clock::Times;
 use clock::clock_time;
@@ -14,9 +14,9 @@ use number::constants::MAX;
 use run_candidates::next_clock;
 use run_candidates::next_level;
 use run_candidates::next_time;
-use run_tanks::close_links;
+use run_closing::close_links;
+use run_closing::sum_demands;
 use run_tanks::move_tanks;
-use run_tanks::sum_demands;
 use run_tanks::tank_time;
 
 // Answers the length. It is not 0 before the duration, so that the tanks always move.

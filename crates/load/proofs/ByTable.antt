@@ -7,7 +7,7 @@ use lib.Ieee.{Float}
 use lib.ListN.{length}
 use Rattle.model.specs.declared.project.Project.{Project}
 use Rattle.model.specs.declared.state.State.{State}
-use Rattle.run_loads.specs.Laid.{junctionIn, EndsLaid, MarksLaid}
+use Rattle.run_load_tables.specs.Laid.{junctionIn, EndsLaid, MarksLaid}
 use Rattle.run_loads.specs.Taking.{JunctionsInside, LinksInside, flowsTaken, headsTaken, inflowsSummed}
 use Rattle.run_state.specs.Lists.{headsOf, demandsOf, demandFlowsOf, flowsOf, statusesOf, settingsOf, listsOf, NodesHold, LinksHold}
 use Rattle.run_state.proofs.Apart.{same-state, lists-made, packed}

@@ -21,7 +21,7 @@ use Rattle.model.specs.declared.project.Project.{Project}
 use Rattle.model.specs.declared.state.NodeState.{NodeState}
 use Rattle.model.specs.declared.state.State.{State}
 use Rattle.model.proofs.Pointwise.{same-turns, idle, putAt, put-at, kept-length, at-entry, each-at, nodes-only}
-use Rattle.run_loads.specs.Laid.{EndsLaid, MarksLaid}
+use Rattle.run_load_tables.specs.Laid.{EndsLaid, MarksLaid}
 use Rattle.run_loads.specs.Taking.{flowsTaken, flowSummed, inflowsSummed}
 use Rattle.run_state.specs.Lists.{demandOf, demandsOf, flowOf, flowsOf}
 use Rattle.run_tables.specs.Held.{TanksLaid}

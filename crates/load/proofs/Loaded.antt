@@ -17,7 +17,7 @@ use Rattle.model.specs.declared.state.NodeState.{NodeState}
 use Rattle.model.specs.declared.state.State.{State}
 use Rattle.model.proofs.Loops.{kept}
 use Rattle.model.proofs.Pointwise.{same-turns, carried, map-set}
-use Rattle.run_loads.specs.Laid.{junctionIn}
+use Rattle.run_load_tables.specs.Laid.{junctionIn}
 use Rattle.run_loads.specs.Taking.{flowTaken, flowsTaken, headTaken, headsTaken}
 use Rattle.run_state.specs.Lists.{headOf, demandFlowOf, flowOf, statusOf, settingOf, headsOf, demandFlowsOf, flowsOf, statusesOf, settingsOf, linksOf}
 use Rattle.run_tables.specs.Chosen.{chosen}

@@ -9,7 +9,7 @@ use native.Mathlib.Omega.{arith}
 use lib.ListN.{getD, length, length-append, List·getD-append}
 use lib.Seq.{getD-append-seam}
 use Rattle.model.specs.declared.project.Project.{Project}
-use Rattle.run_loads.specs.Laid.{junctionIn}
+use Rattle.run_load_tables.specs.Laid.{junctionIn}
 use Rattle.run_loads.specs.Taking.{faultOf}
 use Rattle.run_tables.specs.Chosen.{chosen}
 use Rattle.run_tables.specs.Held.{Pushed}

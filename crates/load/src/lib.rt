@@ -8,6 +8,7 @@ ghost use Rattle.tables.specs.Fit.{TablesFit};
 ghost use Rattle.load.specs.ByTable.{listsLoaded};
 ghost use Rattle.load.specs.Loads.{valueCount, loadFault, takeLoad};
 use model::*;
+use run_load_tables::*;
 use run_loads::*;
 use run_state::*;
 use run_tables::tank_table;

@@ -15,7 +15,7 @@ use Rattle.clock.specs.declared.length.Times.{Times}
 use Rattle.clock.proofs.Tests.{eqb-ind}
 use Rattle.clock.proofs.Smallest.{smallest-max}
 use Rattle.model.specs.Loops.{through}
-use Rattle.run_candidates.specs.Calls.{timesIn, clocksIn, levelsIn, Laid}
+use Rattle.run_kinds.specs.Calls.{timesIn, clocksIn, levelsIn, Laid}
 
 -- ---- the smallest of a list that is not 0, going on from z
 unfoldable pub smallestFrom : List ℕ → ℕ → ℕ

@@ -1,4 +1,1 @@
-pub mod Triggers
-pub mod Calls
-pub mod Levels
 pub mod Next

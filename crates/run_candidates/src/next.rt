@@ -1,7 +1,7 @@
 // The smallest candidate over a list that is not 0: one list goes on from where another ended.
 ghost use mathlib.Core.Path.{_≡_};
 ghost use Prim.Native.Nat.{_≤_};
-ghost use Rattle.run_candidates.specs.Levels.{LevelsInside};
+ghost use Rattle.run_kinds.specs.Levels.{LevelsInside};
 ghost use Rattle.run_candidates.specs.Next.{nextTime, nextClock, nextLevel};
 use clock::clock_candidate;
 use clock::smaller_positive;

@@ -11,8 +11,8 @@ use Rattle.number.specs.Operators.{_⊖_}
 use Rattle.model.specs.Loops.{through}
 use Rattle.model.specs.declared.state.LinkState.{LinkState}
 use Rattle.run_state.specs.Lists.{Links}
-use Rattle.run_controls.specs.Rows.{rowAt}
-use Rattle.run_controls.specs.declared.rows.Row.{Row}
+use Rattle.run_rows.specs.Rows.{rowAt}
+use Rattle.run_rows.specs.declared.rows.Row.{Row}
 
 -- whether a row of a kind acts, from how far the head stands above the target
 unfoldable pub dueBy : ℕ → Float → ℕ → ℕ → ℕ → Bool

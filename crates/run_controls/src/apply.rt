@@ -1,11 +1,11 @@
 // `apply_controls` over the rows of the controls.
 ghost use mathlib.Core.Path.{_≡_};
 ghost use Rattle.run_controls.specs.Apply.{isDue, acted, linksAfter};
-ghost use Rattle.run_controls.specs.Rows.{RowsInside};
-use crate::rows::Row;
-use crate::rows::row_at;
+ghost use Rattle.run_rows.specs.Rows.{RowsInside};
 use model::LinkState;
 use number::constants::L_TOL;
+use run_rows::Row;
+use run_rows::row_at;
 
 // Whether a control acts, from the head that it watches.
 fn is_due(r: Row, head: f64, time: u32, clock: u64) -> bool

@@ -1,3 +1,2 @@
-pub mod Closing
 pub mod Emptying
 pub mod Moving

@@ -25,12 +25,12 @@ use Rattle.tank.specs.declared.tank.Tank as tanks
 use Rattle.run_state.specs.Lists.{headOf, demandOf, headsOf, demandsOf}
 use Rattle.run_tables.specs.Held.{TanksLaid}
 use Rattle.run_tables.specs.Rows.{tankAt}
-use Rattle.run_candidates.specs.Calls.{timesIn, clocksIn, Laid}
-use Rattle.run_candidates.specs.Levels.{standsAt, levelsOf, noLevel, LevelsLaid}
+use Rattle.run_kinds.specs.Calls.{timesIn, clocksIn, Laid}
+use Rattle.run_kinds.specs.Levels.{standsAt, levelsOf, noLevel, LevelsLaid}
 use Rattle.run_candidates.specs.Next.{nextTime, nextClock, nextLevel, waitFor}
-use Rattle.run_candidates.specs.Triggers.{triggersIn}
+use Rattle.run_kinds.specs.Triggers.{triggersIn}
 use Rattle.run_candidates.proofs.ByKind.{smallestFrom, Unreached, by-kind, loop-is, laid-is}
-use Rattle.run_candidates.proofs.Standing.{none-stands}
+use Rattle.run_kinds.proofs.Standing.{none-stands}
 use Rattle.simulation.specs.Steps.{Level, triggerOf, triggerAt, timesOf, triggersOf, momentOf}
 use Rattle.simulation.proofs.Accepted.{each-listed}
 

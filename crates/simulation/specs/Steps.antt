@@ -14,7 +14,7 @@ use Rattle.model.specs.declared.project.Project.{Project}
 use Rattle.model.specs.declared.state.State.{State}
 use Rattle.control.specs.Controls.{levelTime}
 pub use Rattle.control.specs.Controls.{Level, triggerOf}
-unfoldable pub use Rattle.run_candidates.specs.Triggers.{listed}
+unfoldable pub use Rattle.run_kinds.specs.Triggers.{listed}
 use Rattle.state.specs.Tanks.{updateTanks}
 use Rattle.state_node.specs.Tanks.{tankCandidate}
 use Rattle.simulation.specs.declared.step.Stepped.{Stepped}

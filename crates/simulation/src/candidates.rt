@@ -8,6 +8,7 @@ use clock::clock_time;
 use model::*;
 use number::constants::MAX;
 use run_candidates::*;
+use run_kinds::*;
 use run_state::demands_of;
 use run_state::heads_of;
 use run_tables::tank_table;

@@ -28,7 +28,7 @@ use Rattle.run_state.proofs.Apart.{same-state, links-made, lists-made}
 use Rattle.tank_links.specs.Groups.{endsAt, startsAt, linksInto, tankCount, tankNode, begin, joined, listed, isLaidOut}
 use Rattle.tank_links.specs.Laid.{groupIn, beginIn, middleIn, GroupLaid, GroupsLaid}
 use Rattle.tank_links.proofs.Judging.{Stands, groups-stand, groups-fit, next-begin, laid-into-zeros, begins-are, middles-are, entries-are}
-use Rattle.run_tanks.specs.Closing.{PartInside, GroupInside, GroupsInside, linksClosed, demandsSummed}
+use Rattle.run_closing.specs.Closing.{PartInside, GroupInside, GroupsInside, linksClosed, demandsSummed}
 use Rattle.solver.specs.ByTable.{listsClosed}
 use Rattle.solver.specs.Closing.{linkClosed, closeLinks, tankInflow, summed, nodeSummed, updateTankLinks}
 use Rattle.solver.proofs.Closed.{close-links-is}

@@ -32,7 +32,7 @@ use Rattle.run_tables.specs.Rows.{tankAt}
 use Rattle.run_tables.specs.Chosen.{chosen}
 use Rattle.run_tables.specs.Held.{Part, TanksLaid}
 use Rattle.run_tables.specs.Tanks.{tankNodes}
-use Rattle.run_tanks.specs.Closing.{marked, linkMarked, partClosed, groupClosed, linksClosed}
+use Rattle.run_closing.specs.Closing.{marked, linkMarked, partClosed, groupClosed, linksClosed}
 use Rattle.tank_links.specs.Laid.{GroupsLaid}
 use Rattle.run_tables.proofs.Along.{chosen-along, chosen-cond, held-along, part-along}
 use Rattle.solver.proofs.Summed.{same-flow}

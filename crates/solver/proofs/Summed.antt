@@ -27,7 +27,7 @@ use Rattle.tank.specs.declared.tank.Tank as tanks
 use Rattle.run_state.specs.Lists.{flowOf, demandOf, demandsOf}
 use Rattle.run_tables.specs.Tanks.{tankNodes}
 use Rattle.run_tables.specs.Held.{TanksLaid}
-use Rattle.run_tanks.specs.Closing.{added, taken, inflowOf, demandsSummed}
+use Rattle.run_closing.specs.Closing.{added, taken, inflowOf, demandsSummed}
 use Rattle.tank_links.specs.Groups.{linksInto, linksOutOf}
 use Rattle.tank_links.specs.Laid.{GroupLaid, GroupsLaid}
 use Rattle.run_tables.proofs.Along.{along, chosen-along, chosen-cond, same-along, held-along, part-along}

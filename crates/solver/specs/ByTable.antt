@@ -5,7 +5,7 @@ use mathlib.Core.List.{List}
 use lib.Ieee.{Float}
 use Rattle.model.specs.declared.state.State.{State}
 use Rattle.run_state.specs.Lists.{Lists, headsOf, demandsOf, demandFlowsOf, flowsOf, statusesOf, settingsOf}
-use Rattle.run_tanks.specs.Closing.{linksClosed, demandsSummed}
+use Rattle.run_closing.specs.Closing.{linksClosed, demandsSummed}
 
 abbrev pub listsClosed : List ℕ → List Float → List ℕ → List ℕ → List ℕ → List ℕ → ℕ → State → Lists
 listsClosed nodes numbers overflows begins middles links n s = record {

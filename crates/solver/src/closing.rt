@@ -3,7 +3,7 @@ ghost use mathlib.Core.Path.{_≡_};
 ghost use mathlib.Core.Bool.{true};
 ghost use Rattle.run_state.specs.Lists.{listsOf};
 ghost use Rattle.run_tables.specs.Held.{TanksInside};
-ghost use Rattle.run_tanks.specs.Closing.{GroupsInside};
+ghost use Rattle.run_closing.specs.Closing.{GroupsInside};
 ghost use Rattle.tables.specs.Fit.{TablesFit};
 ghost use Rattle.tank_links.specs.Groups.{isLaidOut};
 ghost use Rattle.solver.specs.ByTable.{listsClosed};
@@ -38,7 +38,7 @@ fn close_by<'a>(
     let mut statuses = statuses_of(ls);
     let settings = settings_of(ls);
     let clock = s.clock;
-    run_tanks::close_links(
+    run_closing::close_links(
         nodes,
         numbers,
         overflows,
@@ -50,7 +50,7 @@ fn close_by<'a>(
         &flows,
         &mut statuses,
     );
-    run_tanks::sum_demands(nodes, begins, middles, links, n, &flows, &mut demands);
+    run_closing::sum_demands(nodes, begins, middles, links, n, &flows, &mut demands);
     let summed = nodes_from(heads, demands, demand_flows);
     let closed = links_from(flows, statuses, settings);
     State {

@@ -32,8 +32,8 @@ use Rattle.model.specs.declared.state.State.{State}
 use Rattle.model.proofs.Loops.{kept}
 use Rattle.model.proofs.Pointwise.{map-set, carried-keeping}
 use Rattle.run_controls.specs.Apply.{dueBy, isDue, acted, linkIn, withLinkIn, rowTurn, linksAfter}
-use Rattle.run_controls.specs.Rows.{kindOf, rowFrom, rowIn, RowsLaid, RowsInside}
-use Rattle.run_controls.specs.declared.rows.Row.{Row}
+use Rattle.run_rows.specs.Rows.{kindOf, rowFrom, rowIn, RowsLaid, RowsInside}
+use Rattle.run_rows.specs.declared.rows.Row.{Row}
 use Rattle.run_state.specs.Lists.{headOf, headsOf, flowOf, flowsOf, statusOf, statusesOf, settingOf, settingsOf, linksOf, LinksHold}
 use Rattle.run_state.proofs.Apart.{same-state, packed, links-changed}
 use Rattle.tables.specs.Fit.{TablesFit}

@@ -26,7 +26,7 @@ use Rattle.model.specs.declared.state.State.{State}
 use Rattle.model.proofs.Each.{changed, below}
 use Rattle.model.proofs.Keeps.{keeps, set-keeps}
 use Rattle.model.proofs.Pointwise.{carried, carried-keeping}
-use Rattle.run_patterns.specs.Applying.{Written, Inputs, filled, emptied, patternsApplied}
+use Rattle.run_periods.specs.Applying.{Written, Inputs, filled, emptied, patternsApplied}
 use Rattle.run_state.specs.Lists.{headsOf, demandsOf, demandFlowsOf}
 use Rattle.run_tables.specs.Held.{TanksLaid}
 use Rattle.run_tanks.specs.Emptying.{tanksEmptied}

@@ -6,7 +6,7 @@ use Rattle.model.specs.Blank.{linkAt, controlAt}
 use Rattle.model.specs.declared.control.ControlCondition.{ControlCondition}
 use Rattle.model.specs.declared.control.ControlCondition.the-variants.{HighPressure, LowPressure, HighLevel, LowLevel, Time, ClockTime}
 use Rattle.model.specs.declared.project.Project.{Project}
-use Rattle.run_controls.specs.Rows.{ControlsInside}
+use Rattle.run_rows.specs.Rows.{ControlsInside}
 use Rattle.tables.specs.Fit.{TablesFit, ConditionFit}
 
 watched-below : (nodes : ℕ) (c : ControlCondition) → nodes ≤ 256 → ConditionFit nodes c → watched c < 256

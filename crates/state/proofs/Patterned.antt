@@ -23,7 +23,7 @@ use Rattle.model.specs.declared.state.State.{State}
 use Rattle.model.proofs.Each.{below}
 use Rattle.model.proofs.Loops.{kept}
 use Rattle.model.proofs.Pointwise.{same-turns, carried, map-set}
-use Rattle.run_patterns.specs.Applying.{Written, Inputs, filled}
+use Rattle.run_periods.specs.Applying.{Written, Inputs, filled}
 use Rattle.run_patterns.specs.Filling.{demandPut, demandSum, demandsFilled, headPut, headsFilled, demandCopied, demandsCopied}
 use Rattle.run_sources.specs.Lengths.{LengthsLaid}
 use Rattle.run_sources.specs.Sources.{DemandsLaid, headPattern, isPattern, patternedIn, HeadsLaid}

@@ -4,7 +4,7 @@ ghost use Rattle.tables.specs.Fit.{TablesFit};
 ghost use Rattle.state.specs.Controls.{applyControls};
 use clock::clock_time;
 use model::*;
-use run_controls::control_table;
+use run_rows::control_table;
 use run_state::*;
 
 pub fn apply_controls(p: Project, s: State) -> State

@@ -4,7 +4,7 @@ ghost use lib.ListN.{length};
 ghost use Rattle.tables.specs.Fit.{TablesFit};
 ghost use Rattle.state.specs.Patterns.{applyPatterns};
 use model::*;
-use run_patterns::fill_patterns;
+use run_periods::fill_patterns;
 use run_sources::demand_table;
 use run_sources::head_table;
 use run_sources::pattern_lengths;

@@ -7,7 +7,7 @@ use lib.ListN.{length}
 use Rattle.model.specs.declared.project.Project.{Project}
 use Rattle.model.proofs.Each.{mapped}
 use Rattle.judge.specs.Judgement.{inOrder}
-use Rattle.run_patterns.specs.Applying.{Written}
+use Rattle.run_periods.specs.Applying.{Written}
 use Rattle.driver_load.proofs.Inner.{fit}
 use Rattle.driver_tables.specs.Laid.{Laid, TablesInside}
 use Rattle.driver_tables.proofs.Inside.{tables-inside}

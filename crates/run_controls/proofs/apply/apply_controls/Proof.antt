@@ -4,7 +4,7 @@ use mathlib.Core.Path.{refl, sym, ap}
 use native.Mathlib.Omega.{arith}
 use Rattle.model.proofs.Loops.{Ran, begun, turned, ended}
 use borrow.Author.Needs.{needs}
-use Rattle.run_controls.specs.declared.rows.Row.{Row}
+use Rattle.run_rows.specs.declared.rows.Row.{Row}
 use Rattle.run_controls.specs.Apply.{rowTurn, linksAfter}
 use Rattle.run_controls.proofs.apply.apply_controls.Statement.{statement}
 use Rattle.run_controls.proofs.apply.apply_controls.Tie as tie

@@ -1,0 +1,3 @@
+pub mod Triggers
+pub mod Calls
+pub mod Levels
