@@ -267,7 +267,7 @@ class Progress(Copied):
     def test_the_first_build_speaks(self):
         lines = self.run_it().stderr.splitlines()
         self.assertEqual(lines[0], "run: proving and building driver, 65 crates; this first time takes minutes")
-        self.assertRegex(lines[1], r"^\[2/60\] driver, 17 s; 58 left, about \d+ s$")
+        self.assertRegex(lines[1], r"^\[2/65\] driver, 17 s; 63 left, about \d+ s$")
 
     def test_the_next_is_silent(self):
         self.run_it()
