@@ -27,6 +27,7 @@ import stops_asked  # noqa: E402
 import timetable_cases  # noqa: E402
 import vectors  # noqa: E402
 import works  # noqa: E402
+import wrong_answers  # noqa: E402
 
 
 def load_tests(loader, own, pattern):
@@ -152,8 +153,8 @@ class Documents(unittest.TestCase):
             for crate, rest in re.findall(r"`(?:crates/)?(\w+)/((?:src|specs|proofs|must-fail)[\w./*-]*)`", text):
                 if (CRATES / crate).is_dir():
                     place = CRATES / crate / rest
-                    found = [name for end in ("", ".antt", ".edit") for name in place.parent.glob(place.name + end)]
-                    self.assertTrue(found, f"{document}: {crate}/{rest}")
+                    found = [name for end in ("", ".antt") for name in place.parent.glob(place.name + end)]
+                    self.assertTrue(found or wrong_answers.tried(CRATES / crate, place.name), f"{document}: {crate}/{rest}")
 
     def test_definitions(self):
         """Behind `CRATE/specs/FILE`: stand names of that file."""
@@ -164,13 +165,15 @@ class Documents(unittest.TestCase):
                     self.assertRegex(defined, rf"\b{name}\b", f"{document}: {crate}/specs/{file}")
 
     def test_wrong_answers(self):
-        """Every label of the table of wrong answers is an edit of its crate."""
-        table = self.texts["PROMISES.md"].partition("| Crate | Function: edits |")[2]
-        for row in re.findall(r"^\| (.*) \| (.*) \|$", table, re.M):
+        """Every label of the table of wrong answers is one of its crate."""
+        table = self.texts["PROMISES.md"].partition("| Crate | Function: wrong answers |")[2]
+        rows = re.findall(r"^\| (.*) \| (.*) \|$", table, re.M)
+        self.assertTrue(rows)
+        for row in rows:
             labels = re.findall(r"(?<![`\w])[a-z0-9]+_[a-z0-9_]*\*?", re.sub(r"`[^`]*`", "", row[1]))
             crates = [name for name in re.findall(r"`(\w+)`", row[0])]
             for label in labels:
-                found = [path for name in crates for path in CRATES.glob(f"{name}/must-fail/{label}.edit")]
+                found = [path for name in crates for path in wrong_answers.tried(CRATES / name, label)]
                 self.assertTrue(found, f"{crates}: {label}")
 
     def test_links(self):
