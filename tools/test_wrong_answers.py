@@ -129,7 +129,13 @@ class Judged(Folder):
     def test_refused_for_what_it_calls_alone(self):
         for said in ("not proved", "no proof: expected `area-spec` in /r/proofs/area/Proof.antt"):
             called = f"fn shapes::area: {said}; it calls `shapes::depth`, which is not proved\n"
-            self.assertEqual(self.found(self.OWN + called, DEPTH, AREA), ["area_doubled is accepted by area"])
+            for answer in (AREA, SQUARE):
+                self.assertEqual(self.found(self.OWN + called, DEPTH, answer), [f"{answer[0][7:]} is accepted by area"])
+
+    def test_refused_for_its_own_code_and_for_what_it_calls(self):
+        error = "/r/proofs/area/Proof.antt:7:2: error: `returns`: the two types differ\n"
+        called = "fn shapes::area: not proved; it calls `shapes::depth`, which is not proved\n"
+        self.assertEqual(self.found(self.OWN + error + called, DEPTH, AREA), [])
 
     def test_code_that_is_refused_only_because_a_law_is(self):
         law = "/r/proofs/area/Proof.antt:9:5: error: `area-spec`: `law` was not admitted, so this cannot be checked\nfn shapes::area: not proved\n"

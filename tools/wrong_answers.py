@@ -7,10 +7,10 @@ It reads the logs that `rt ci` or `rt must-fail` left below ROOT/target/must-fai
 status 1 and a line for each wrong answer where it is not. docs/CONTRIBUTING.md has the form of an edit.
 
 rt sees to it that an edit is refused. In an edit of several wrong answers one that is accepted would hide behind the
-others. So each names the functions that have to be refused for it: not because they call another that is, and by an error
-in their own proof where their own code is changed; and no other function may be refused. No function is named by two of one
-edit, and no definition is changed that the contract of another's function comes to (`faults`, which a test asks of every
-edit).
+others. So each names the functions that have to be refused for it: where their code is changed, by an error of their own
+proof that does not follow from another; where a definition is, not because they call another that is refused. No other
+function may be refused. No function is named by two of one edit, and no definition is changed that the contract of
+another's function comes to (`faults`, which a test asks of every edit).
 """
 import fnmatch
 import pathlib
@@ -159,7 +159,7 @@ def judged(answers, log):
     errors = re.findall(r"([^/ ]*)/Proof\.antt:\d+:\d+: error: (.*)", text)
     own = bare | {name for name, reason in errors if not FOLLOWS.search(reason)}
     for answer in answers:
-        missed = set(answer.refused) - (refused & own if answer.in_code() else refused)
+        missed = set(answer.refused) - (own if answer.in_code() else refused)
         if missed:
             yield f"{answer.label} is accepted by {' '.join(sorted(missed))}"
     for name in sorted(refused - {name for answer in answers for name in answer.refused}):
