@@ -93,7 +93,7 @@ class Form(Folder):
 
     def test_a_definition_that_the_contract_of_another_comes_to(self):
         elsewhere = (SQUARE[0], "refused: depth", *SQUARE[2:])
-        self.assertEqual(self.found(AREA, elsewhere), ["square_of_zero: it bears on what another is refused by: area"])
+        self.assertEqual(self.found(AREA, elsewhere), ["square_of_zero: it bears on area, which is to be refused for another one"])
 
     def test_a_change_outside_every_definition(self):
         outside = (*SQUARE[:3], "old: -- a depth is never below 0", "new: -- a depth")
@@ -102,8 +102,14 @@ class Form(Folder):
     def test_a_change_of_a_function_that_is_not_named(self):
         self.assertEqual(self.found((*AREA[:1], "refused: depth", *AREA[2:])), ["area_doubled: it changes no function that it names"])
 
+    def test_a_change_of_a_contract(self):
+        contract = (*AREA[:3], "old: areaOf width", "new: depthOf width")
+        self.assertEqual(self.found(DEPTH, contract), [])
+        self.write("src/lib.rt", SOURCE.replace("    level\n", "    area(level) / level\n"))
+        self.assertEqual(self.found(DEPTH, contract), ["area_doubled: it changes the contract of a function that depth calls"])
+
     def test_no_function(self):
-        self.assertEqual(self.found(AREA[:1] + AREA[2:]), ["area_doubled: it names no function, or changes nothing", "area_doubled: it changes no function that it names"])
+        self.assertIn("area_doubled: it names no function, or changes nothing", self.found(AREA[:1] + AREA[2:]))
         self.assertIn("square_of_zero: volume is no function of the crate", self.found((SQUARE[0], "refused: volume", *SQUARE[2:])))
 
     def test_a_text_that_is_gone_or_stands_twice(self):
@@ -138,7 +144,8 @@ class Judged(Folder):
         self.assertEqual(self.found(self.OWN + error + called, DEPTH, AREA), [])
 
     def test_code_that_is_refused_only_because_a_law_is(self):
-        law = "/r/proofs/area/Proof.antt:9:5: error: `area-spec`: `law` was not admitted, so this cannot be checked\nfn shapes::area: not proved\n"
+        error = "/r/proofs/area/Proof.antt:9:5: error: `area-spec`: `law` was not admitted, so this cannot be checked\n"
+        law = error + "fn shapes::area: not proved\n"
         self.assertEqual(self.found(self.OWN + law, DEPTH, AREA), ["area_doubled is accepted by area"])
         self.assertEqual(self.found(self.OWN + law, DEPTH, SQUARE), [])
 

@@ -9,8 +9,8 @@ status 1 and a line for each wrong answer where it is not. docs/CONTRIBUTING.md 
 rt sees to it that an edit is refused. In an edit of several wrong answers one that is accepted would hide behind the
 others. So each names the functions that have to be refused for it: where their code is changed, by an error of their own
 proof that does not follow from another; where a definition is, not because they call another that is refused. No other
-function may be refused. No function is named by two of one edit, and no definition is changed that the contract of
-another's function comes to (`faults`, which a test asks of every edit).
+function may be refused. No function is named by two of one edit, no definition is changed that the contract of another's
+function comes to, and no contract of one that it calls (`faults`, which a test asks of every edit).
 """
 import fnmatch
 import pathlib
@@ -39,15 +39,15 @@ class WrongAnswer:
 
 @dataclass
 class Item:
-    """A function or a definition: its file, where its text begins and ends there, and the names that it cites."""
+    """A function or a definition: its file, where its text begins there, the text without comments, and the names that it cites."""
 
     file: str
     begin: int
-    end: int
+    text: str
     names: set
 
     def holds(self, file, at):
-        return self.file == file and self.begin <= at < self.end
+        return self.file == file and self.begin <= at < self.begin + len(self.text)
 
 
 def together(edit):
@@ -88,8 +88,9 @@ def items(crate, pattern, head, cited):
         heads = list(head.finditer(text))
         ends = [following.start() for following in heads[1:]] + [len(text)]
         for begun, end in zip(heads, ends):
-            names = set(NAME.findall(cited(text[begun.start() : end])))
-            found.setdefault(begun[1], []).append(Item(str(path.relative_to(crate)), begun.start(), end, names))
+            own = text[begun.start() : end]
+            item = Item(str(path.relative_to(crate)), begun.start(), own, set(NAME.findall(cited(own))))
+            found.setdefault(begun[1], []).append(item)
     return found
 
 
@@ -120,6 +121,26 @@ def reached(names, found):
     return seen
 
 
+def faults_of_code(answer, source, at, inside, others, known):
+    """A change of code is inside a function that the wrong answer names, and leaves the contracts on which the others' functions rest."""
+    if not inside & set(answer.refused):
+        yield f"{answer.label}: it changes no function that it names"
+    line = source[source.rfind("\n", 0, at) + 1 : source.find("\n", at)]
+    if re.match(r" *(requires|ensures) ", line):
+        for name in sorted(others & set(known)):
+            if any(re.search(rf"\b{changed}\(", item.text) for changed in inside for item in known[name]):
+                yield f"{answer.label}: it changes the contract of a function that {name} calls"
+
+
+def faults_of_definition(answer, changed, others, known, defined):
+    """A change of a definition leaves what the contracts of the others' functions come to."""
+    if not changed:
+        yield f"{answer.label}: it changes no definition"
+    for name in sorted(others & set(known)):
+        if changed & reached(cited_by(known[name]), defined):
+            yield f"{answer.label}: it bears on {name}, which is to be refused for another one"
+
+
 def faults(crate, answers):
     """Why these wrong answers cannot be tried in one check, a line each."""
     known, defined, texts = functions(crate), definitions(crate), {}
@@ -140,15 +161,10 @@ def faults(crate, answers):
                 continue
             texts[file] = text.replace(old, new)
             at = source.index(old)
-            if file.startswith("src/") and not at_place(known, file, at) & set(answer.refused):
-                yield f"{answer.label}: it changes no function that it names"
-            if not file.startswith("src/"):
-                changed = at_place(defined, file, at)
-                borne_on = [name for name in sorted(others & set(known)) if changed & reached(cited_by(known[name]), defined)]
-                if not changed:
-                    yield f"{answer.label}: it changes no definition"
-                if borne_on:
-                    yield f"{answer.label}: it bears on what another is refused by: {' '.join(borne_on)}"
+            if file.startswith("src/"):
+                yield from faults_of_code(answer, source, at, at_place(known, file, at), others, known)
+            else:
+                yield from faults_of_definition(answer, at_place(defined, file, at), others, known, defined)
 
 
 def judged(answers, log):
