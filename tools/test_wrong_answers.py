@@ -95,6 +95,10 @@ class Form(Folder):
         elsewhere = (SQUARE[0], "refused: depth", *SQUARE[2:])
         self.assertEqual(self.found(AREA, elsewhere), ["square_of_zero: it bears on area, which is to be refused for another one"])
 
+    def test_a_definition_that_what_another_calls_comes_to(self):
+        self.write("src/lib.rt", SOURCE.replace("    level\n", "    area(level) / level\n"))
+        self.assertEqual(self.found(DEPTH, SQUARE), ["square_of_zero: it bears on depth, which is to be refused for another one"])
+
     def test_a_change_outside_every_definition(self):
         outside = (*SQUARE[:3], "old: -- a depth is never below 0", "new: -- a depth")
         self.assertEqual(self.found(DEPTH, outside), ["square_of_zero: it changes no definition"])

@@ -10,7 +10,7 @@ rt sees to it that an edit is refused. In an edit of several wrong answers one t
 others. So each names the functions that have to be refused for it: where their code is changed, by an error of their own
 proof that does not follow from another; where a definition is, not because they call another that is refused. No other
 function may be refused. No function is named by two of one edit, no definition is changed that the contract of another's
-function comes to, and no contract of one that it calls (`faults`, which a test asks of every edit).
+function, or of one that it calls, comes to, and no contract of one that it calls (`faults`; a test asks it of every edit).
 """
 import fnmatch
 import pathlib
@@ -110,6 +110,10 @@ def cited_by(places):
     return set().union(*(item.names for item in places))
 
 
+def calls(places, name):
+    return any(re.search(rf"\b{name}\(", item.text) for item in places)
+
+
 def reached(names, found):
     """These names, and all that the definitions among them come to."""
     seen, waiting = set(), list(names)
@@ -128,16 +132,17 @@ def faults_of_code(answer, source, at, inside, others, known):
     line = source[source.rfind("\n", 0, at) + 1 : source.find("\n", at)]
     if re.match(r" *(requires|ensures) ", line):
         for name in sorted(others & set(known)):
-            if any(re.search(rf"\b{changed}\(", item.text) for changed in inside for item in known[name]):
+            if any(calls(known[name], changed) for changed in inside):
                 yield f"{answer.label}: it changes the contract of a function that {name} calls"
 
 
 def faults_of_definition(answer, changed, others, known, defined):
-    """A change of a definition leaves what the contracts of the others' functions come to."""
+    """A change of a definition leaves what the contracts of the others' functions, and of those that they call, come to."""
     if not changed:
         yield f"{answer.label}: it changes no definition"
     for name in sorted(others & set(known)):
-        if changed & reached(cited_by(known[name]), defined):
+        rested_on = [name, *(called for called in known if calls(known[name], called))]
+        if changed & reached(set().union(*(cited_by(known[one]) for one in rested_on)), defined):
             yield f"{answer.label}: it bears on {name}, which is to be refused for another one"
 
 
