@@ -12,7 +12,7 @@ import sys
 
 WORD = re.compile(r"--[^\n]*|\"(?:[^\"\\]|\\.)*\"|«[^»]*»|[^\s(){}.;,@\"«»\[\]\\]+")
 CODE = re.compile(r"//[^\n]*|\"(?:[^\"\\]|\\.)*\"|[A-Za-z_0-9'◌·⊕⊖÷]+")
-USE = re.compile(r"(?m)^\s*(?:pub )?(?:ghost )?(?:pub )?use ([\w.+'-]+)(?:\.\{([^}]*)\})?")
+USE = re.compile(r"(?m)^\s*(?:pub )?(?:ghost )?(?:pub )?use ([\w+'-]+(?:\.[\w+'-]+)*)(?:\.\{([^}]*)\})?")
 # Names that would fall together with another in the same file, and what they are called instead.
 INSTEAD = {"headPattern": "head_pattern_of", "getD-joined": "get_or_joined", "getD-listOf": "get_or_list_of"}
 
@@ -70,22 +70,21 @@ def declared(path, text):
 
 
 def table():
-    kit, own = set(), set()
+    kit, own, said = set(), set(), set()
     for path in files(".antt"):
         text = read(path)
         kit |= of_kit(text)
         names = declared(path, text)
         if of_function(path):
             # What Rattle names has a type of its own module.
-            made = set(re.findall(r"(?m)^(\S+) : tie\.", text)) | set(re.findall(r"(?m)^(?:abbrev )?(?:pub )?(\S+) : tie\.", text))
-            made |= set(re.findall(r"(?m)^pub (\S+-spec) :", text))
-            names -= made
+            names -= set(re.findall(r"(?m)^(?:abbrev )?(?:pub )?(\S+) : (?:tie|goal)\.", text)) | set(re.findall(r"(?m)^pub (\S+-spec) :", text))
         own |= names
-        own |= {w for w in WORD.findall(text) if is_lower_camel(w)}
+        said |= {w for w in WORD.findall(text) if is_lower_camel(w)}
+    own |= said - kit
     result = {}
     plain = {it for it in own if "-" not in it}
     taken = plain | {snake(it) for it in plain}
-    for name in own - kit:
+    for name in own:
         if name[0].isupper() or not re.fullmatch(r"[A-Za-z][\w'-]*", name):
             continue
         new = INSTEAD.get(name) or snake(name).replace("-", "_")
@@ -94,10 +93,16 @@ def table():
         if new != name:
             result[name] = new
     # One script of the kit took the first part of a variable's name for a word of its own.
-    return result | {"in_List": "in_list"}, kit
+    return result | {"in_List": "in_list"}
 
 
-def turned(text, words, names, is_code=False):
+def of_file(path, text, names):
+    """The table for one file: what it imports from the kit keeps its name."""
+    kit = of_kit(text)
+    return {a: b for a, b in names.items() if a not in kit}
+
+
+def turned(text, words, names):
     def one(it):
         word = it[0]
         if word.startswith(("--", '"', "//")):
@@ -110,7 +115,7 @@ def turned(text, words, names, is_code=False):
 
 
 def main(argv):
-    names, kit = table()
+    names = table()
     if argv == ["--table"]:
         for a, b in sorted(names.items()):
             print(a, b)
@@ -119,9 +124,10 @@ def main(argv):
     for path in files(".antt"):
         text = read(path)
         words = {w for w in WORD.findall(text) if not w.startswith(("--", '"'))}
+        here = of_file(path, text, names)
         seen = {}
         for w in sorted(words):
-            new = names.get(w, w)
+            new = here.get(w, w)
             if new in seen and seen[new] != w:
                 print(f"{path}: {seen[new]} and {w} are both {new}")
                 together += 1
@@ -139,7 +145,7 @@ def main(argv):
         return 0
     for path in files(".antt"):
         text = read(path)
-        new = turned(text, WORD, names)
+        new = turned(text, WORD, of_file(path, text, names))
         if new != text:
             with open(path, "w", encoding="utf-8") as it:
                 it.write(new)

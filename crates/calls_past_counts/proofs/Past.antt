@@ -5,7 +5,7 @@ use mathlib.Core.Bool.{Bool, true, false, cond}
 use mathlib.Core.List.{List}
 use native.Mathlib.Omega.{arith}
 use lib.Dec.{eqb}
-use lib.Seq.{get_or_set_other}
+use lib.Seq.{get_or-set_other}
 use Rattle.clock.specs.Steps.{advanced}
 use Rattle.model.specs.Blank.{blank_state, blank_node_state, blank_link_state, control_at, with_node, with_link}
 use Rattle.model.specs.declared.project.Project.{Project}
@@ -42,14 +42,14 @@ same p s = record { node = λ i l. refl; link = λ i l. refl }
 module _ {p : Project} {s t : State} (i : ℕ) where
   node_set : (x : NodeState) → i < p.counts.nodes → SamePast p s t → SamePast p s (with_node t i x)
   node_set x l q = record {
-    node = λ j m. get_or_set_other t.nodes i j x blank_node_state (λ e. omega arith) ∙ q.node j m;
+    node = λ j m. get_or-set_other t.nodes i j x blank_node_state (λ e. omega arith) ∙ q.node j m;
     link = q.link;
   }
 
   link_set : (x : LinkState) → i < p.counts.links → SamePast p s t → SamePast p s (with_link t i x)
   link_set x l q = record {
     node = q.node;
-    link = λ j m. get_or_set_other t.links i j x blank_link_state (λ e. omega arith) ∙ q.link j m;
+    link = λ j m. get_or-set_other t.links i j x blank_link_state (λ e. omega arith) ∙ q.link j m;
   }
 
 -- ---- what the calls do to a state

@@ -8,7 +8,7 @@ use native.Mathlib.Omega.{arith}
 use lib.Dec.{eqb, ltb, lit≤}
 use borrow.Author.Tests.{eqb-true, eqb-false}
 use lib.ListN.{length, get_or, take, drop, length-take}
-use lib.Seq.{get_or_take, get_or-drop}
+use lib.Seq.{get_or-take, get_or-drop}
 use lib.Ieee.{Float, nan, binary64, add, sub, mul, round}
 use Rattle.number.specs.Bounds.{Within}
 use Rattle.number.specs.Constants.{decimal, q_zero, PI}
@@ -90,7 +90,7 @@ multiplier_at_within xs a n t each = go (eqb (length (take n (drop a xs))) 0) re
         let i = t % length ms in
         let l : i < length ms = mod-lt t (omega arith) in
         let m : length ms ≤ n = rw (length-take n (drop a xs)) (omega arith) in
-        subst (λ (x : Float). Within x (10 ^ 6)) (sym (get_or_take n (drop a xs) i nan (omega arith) ∙ get_or-drop a xs i nan)) (each i (omega arith))
+        subst (λ (x : Float). Within x (10 ^ 6)) (sym (get_or-take n (drop a xs) i nan (omega arith) ∙ get_or-drop a xs i nan)) (each i (omega arith))
 
 pub multiplier_within : {p : Project} → TablesFit p → (t : ℕ) (q : PatternIndex) → PatternIndexFit p.counts.patterns q → Within (multiplier_of p t q) (10 ^ 6)
 unfolding multiplier_of pattern_at

@@ -6,8 +6,8 @@ use Prim.Native.Nat.{ℕ, suc, ◌^◌, ◌≤◌, ◌<◌}
 use native.Mathlib.Omega.{arith}
 use lib.Dec.{eqb}
 use borrow.Author.Tests.{eqb-true, eqb-false}
-use lib.ListN.{length, get_or, set, length_set, length-replicate}
-use lib.Seq.{get_or-set_same, get_or_set_other}
+use lib.ListN.{length, get_or, set, length-set, length-replicate}
+use lib.Seq.{get_or-set_same, get_or-set_other}
 use Rattle.model.specs.Blank.{blank_state, blank_node_state, blank_link_state, node_at, link_at, node_state_at, link_state_at, with_node, with_link}
 use Rattle.model.specs.declared.project.Project.{Project}
 use Rattle.model.specs.declared.state.LinkState.{LinkState}
@@ -25,7 +25,7 @@ written P l k i v d m new old = go (eqb i k) refl
   where
     go : (b : Bool) → eqb i k ≡ b → P (get_or (set l k v) i d)
     go true e = let q : i ≡ k = eqb-true i k e in subst P (sym (ap (λ (j : ℕ). get_or (set l k v) j d) q ∙ get_or-set_same l k v d m)) new
-    go false e = subst P (sym (get_or_set_other l k i v d (eqb-false i k e))) (old (eqb-false i k e))
+    go false e = subst P (sym (get_or-set_other l k i v d (eqb-false i k e))) (old (eqb-false i k e))
 
 -- the first n nodes and k links have started
 record Started (n k : ℕ) (s : State) : Type 0 where
@@ -44,7 +44,7 @@ none j l = omega arith
 
 node_started_lem : {n k : ℕ} {s : State} {x : NodeState} → n < 256 → NodeStateFit x → Started n k s → Started (suc n) k (with_node s n x)
 node_started_lem {n} {k} {s} {x} m f o = record {
-  nodes = length_set s.nodes n x ∙ o.nodes;
+  nodes = length-set s.nodes n x ∙ o.nodes;
   links = o.links;
   instant = o.instant;
   count = o.count;
@@ -55,7 +55,7 @@ node_started_lem {n} {k} {s} {x} m f o = record {
 link_started_lem : {n k : ℕ} {s : State} {x : LinkState} → k < 384 → LinkStateFit x → Started n k s → Started n (suc k) (with_link s k x)
 link_started_lem {n} {k} {s} {x} m f o = record {
   nodes = o.nodes;
-  links = length_set s.links k x ∙ o.links;
+  links = length-set s.links k x ∙ o.links;
   instant = o.instant;
   count = o.count;
   node = o.node;

@@ -8,7 +8,7 @@ use mathlib.Core.List.{List, [], ◌∷◌, map}
 use native.Mathlib.Omega.{arith}
 use native.Mathlib.Nat.{mod-lt, div-zero, le-div_iff_mul-le, div-mul-le_self, div-add-mod'}
 use lib.Dec.{leb, eqb}
-use borrow.Author.Tests.{lt_ltb, eq-eqb, le-leb, lt-leb}
+use borrow.Author.Tests.{lt-ltb, eq-eqb, le-leb, lt-leb}
 use Rattle.number.specs.Constants.{MAX}
 use Rattle.clock.specs.declared.length.Times.{Times}
 use Rattle.clock.specs.Steps.{DAY, clock_time, to_next}
@@ -113,11 +113,11 @@ module _ {L : Type 0} (o : Times) where
 module _ {L : Type 0} (ts : List (Trigger L)) (m : Moment L) (n : ℕ) (p : 0 < n) where
   long_tank : n ≡ m.tank → 1 ≤ bit (as_long ts m n)
   unfolding as_long
-  long_tank e = rw (lt_ltb 0 n p, eq-eqb n m.tank e) (omega arith)
+  long_tank e = rw (lt-ltb 0 n p, eq-eqb n m.tank e) (omega arith)
 
   long_level : bit (is_some_level_time ts m n) ≤ bit (as_long ts m n)
   unfolding as_long
-  long_level = rw (lt_ltb 0 n p) (bit_or_right (eqb n m.tank) (is_some_level_time ts m n))
+  long_level = rw (lt-ltb 0 n p) (bit_or_right (eqb n m.tank) (is_some_level_time ts m n))
 
 -- ---- the potential
 module _ {L : Type 0} (o : Times) (ts : List (Trigger L)) where

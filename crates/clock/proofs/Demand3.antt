@@ -8,7 +8,7 @@ use mathlib.Core.List.{List, [], ◌∷◌}
 use native.Mathlib.Omega.{arith}
 use native.Mathlib.Nat.{mod-lt, div-add-mod', div-lt_iff_lt-mul, div-eq_of_lt, add-div_right, mul-le-mul_right}
 use lib.Dec.{eqb}
-use borrow.Author.Tests.{lt_ltb, le_ltb, eq-eqb, ne_eqb}
+use borrow.Author.Tests.{lt-ltb, le-ltb, eq-eqb, ne_eqb}
 use Rattle.clock.specs.declared.length.Times.{Times}
 use Rattle.clock.specs.Steps.{to_next}
 use Rattle.clock.specs.Triggers.{Trigger, length_at}
@@ -130,7 +130,7 @@ module _ {L : Type 0} (M : Machine L) (o : Times) (ts : List (Trigger L)) where
             within = omega (arith, length_within o ts (M.moment s) (M.instant s) (omega arith));
             sums = e.instant;
             done = omega arith;
-            counts = omega (arith, ap bit (lt_ltb 0 (M.answer c s) p));
+            counts = omega (arith, ap bit (lt-ltb 0 (M.answer c s) p));
             fast = λ f. omega (arith, next f);
             ahead = λ f. omega (arith, next f, ap (λ t. whole_up t o.report) remains);
             bounded = λ f. omega (arith, potential_rise o ts ok (M.moment s) (M.instant s) f l e.length, ap (potential o ts) e.instant);
@@ -151,7 +151,7 @@ module _ {L : Type 0} (M : Machine L) (o : Times) (ts : List (Trigger L)) where
           (λ h. run_moves h e)
           (λ h.
           let n : M.answer c s ≡ 0 = e.length ∙ length_past o ts (M.moment s) (M.instant s) h in
-          run_stays l (omega arith) (omega (arith, ap bit (le_ltb 0 (M.answer c s) (omega arith)))) (omega arith) n)
+          run_stays l (omega arith) (omega (arith, ap bit (le-ltb 0 (M.answer c s) (omega arith)))) (omega arith) n)
 
       run_call : M.instant s ≤ o.duration
           → Run M o ts s z (bit (M.is_step c)) (cond (M.is_step c) (M.answer c s) 0) (changed (M.instant s) (M.instant z))

@@ -8,7 +8,7 @@ use mathlib.Core.Bool.{Bool, true, false, cond}
 use mathlib.Core.List.{List, [], ◌∷◌, map}
 use native.Mathlib.Omega.{arith}
 use native.Mathlib.Nat.{mod-lt}
-use borrow.Author.Tests.{lt_ltb, le_ltb, ne_eqb}
+use borrow.Author.Tests.{lt-ltb, le-ltb, ne_eqb}
 use Rattle.number.specs.Constants.{MAX}
 use Rattle.clock.specs.declared.length.Times.{Times}
 use Rattle.clock.specs.Steps.{DAY, time_candidate, clock_candidate, smaller_positive, smallest_positive, to_next, calculate_time_step, step_length}
@@ -20,19 +20,19 @@ use Rattle.clock.proofs.Smallest.{Member, smallest_positive_lem, smallest_max, s
 -- ---- a control's candidate
 pub time_past : (seconds time : ℕ) → seconds < time → time_candidate seconds time ≡ MAX
 unfolding time_candidate
-time_past seconds time l = rw (lt_ltb seconds time l)
+time_past seconds time l = rw (lt-ltb seconds time l)
 
 pub time_later : (seconds time : ℕ) → time ≤ seconds → time_candidate seconds time ≡ seconds - time
 unfolding time_candidate
-time_later seconds time l = rw (le_ltb seconds time l)
+time_later seconds time l = rw (le-ltb seconds time l)
 
 pub clock_tomorrow : (seconds clock : ℕ) → seconds < clock → clock_candidate seconds clock ≡ seconds + DAY - clock
 unfolding clock_candidate
-clock_tomorrow seconds clock l = rw (lt_ltb seconds clock l)
+clock_tomorrow seconds clock l = rw (lt-ltb seconds clock l)
 
 pub clock_today : (seconds clock : ℕ) → clock ≤ seconds → clock_candidate seconds clock ≡ seconds - clock
 unfolding clock_candidate
-clock_today seconds clock l = rw (le_ltb seconds clock l)
+clock_today seconds clock l = rw (le-ltb seconds clock l)
 
 -- ---- the smallest of some, taken with one more
 smallest_with : (h : ℕ) (xs : List ℕ) → smallest_positive (smallest_positive xs ∷ h ∷ []) ≡ smallest_positive (h ∷ xs)
@@ -66,11 +66,11 @@ module _ (o : Times) (tanks controls time : ℕ) where
 
   pub step_past : o.duration ≤ time → step_length o tanks controls time ≡ 0
   unfolding step_length
-  step_past h = rw (le_ltb time o.duration h)
+  step_past h = rw (le-ltb time o.duration h)
 
   pub step_is : time < o.duration → step_length o tanks controls time ≡ min (calculate_time_step o tanks controls time) (o.duration - time)
   unfolding step_length
-  step_is h = rw (lt_ltb time o.duration h)
+  step_is h = rw (lt-ltb time o.duration h)
 
   pub step_positive : 0 < o.report → time < o.duration → 0 < step_length o tanks controls time
   step_positive p h = omega (arith, step_is h, calculate_positive p)

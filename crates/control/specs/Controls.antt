@@ -4,9 +4,7 @@ use Rattle.std.specs.Float.Ieee.{le, ne, neg}
 use Rattle.number.specs.Constants.{h_tol, l_tol, MAX}
 use Rattle.number.specs.Operators.{◌⊖◌}
 use Rattle.clock.specs.Triggers.{Trigger, at_time, at_clock, at_level, untimed, candidate_of}
-use Rattle.tank.specs.Reach.{reach_of, seconds_of}
-use Rattle.tank.specs.Tanks.{seconds_to_reach_level}
-use Rattle.tank.specs.declared.reach.Reach.{Reach}
+use Rattle.tank.specs.Tanks.{time_to_reach_level}
 use Rattle.model.specs.Links.{initial_flow}
 use Rattle.model.specs.Nodes.{elevation, is_tank}
 use Rattle.model.specs.declared.control.Control.{Control}
@@ -61,16 +59,12 @@ activate_status KeepStatus setting l s = activate_setting setting l s
 abbrev pub activate : Control → Link → LinkState → Activated
 activate c l s = activate_status c.status c.setting l s
 
--- the time to a level control's target, in the Rust's seconds; "level controls whose node is no tank, give no candidate"
-abbrev pub level_seconds : NodeType → NodeState → Float → ℕ
-level_seconds (Reservoir r) s target = MAX
-level_seconds (Tank t) s target =
-    seconds_to_reach_level t (record { 0 = s.head ⊖ t.elevation.0 }) (record { 0 = target }) (record { 0 = s.demand })
-level_seconds (Junction j) s target = MAX
-
--- Document 02, R-5: "The old 0 is arrived, MAX never, the rest the same seconds"
-unfoldable pub level_time : NodeType → NodeState → Float → Reach
-level_time k s target = reach_of (level_seconds k s target)
+-- the time to a level control's target; "level controls whose node is no tank, give no candidate"
+abbrev pub level_time : NodeType → NodeState → Float → ℕ
+level_time (Reservoir r) s target = MAX
+level_time (Tank t) s target =
+    time_to_reach_level t (record { 0 = s.head ⊖ t.elevation.0 }) (record { 0 = target }) (record { 0 = s.demand })
+level_time (Junction j) s target = MAX
 
 -- a level control's tank and target
 pub record Level : Type 0 where
@@ -78,7 +72,7 @@ pub record Level : Type 0 where
   pub target : Float
 
 -- when a control calls for a stop. "Pressure controls, and level controls whose node is no tank, give no candidate": the former here, the latter by
--- `level_time`, which is `Never` there
+-- `level_time`, which is MAX there
 abbrev pub trigger_of : ControlCondition → Trigger Level
 trigger_of (HighPressure n x) = untimed
 trigger_of (LowPressure n x) = untimed
@@ -89,4 +83,4 @@ trigger_of (ClockTime s) = at_clock s
 
 -- a control's candidate: the clock's, from the node that it watches
 abbrev pub candidate : ControlCondition → Node → NodeState → ℕ → ℕ → ℕ
-candidate c n s time clock = candidate_of (λ (l : Level). seconds_of (level_time n.kind s l.target)) time clock (trigger_of c)
+candidate c n s time clock = candidate_of (λ (l : Level). level_time n.kind s l.target) time clock (trigger_of c)

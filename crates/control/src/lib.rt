@@ -1,13 +1,12 @@
 // `control.rs` for one control, with the node that it watches and the link that it sets.
 ghost use Rattle.std.specs.Prelude.{◌≡◌};
-ghost use Rattle.control.specs.Controls.{watched, above, is_active, activate, level_time, level_seconds, candidate};
+ghost use Rattle.control.specs.Controls.{watched, above, is_active, activate, level_time, candidate};
 ghost use Rattle.control.specs.Named.{condition_target, condition_seconds};
-ghost use Rattle.tank.specs.Reach.{seconds_of};
 
 use clock::{clock_candidate, time_candidate};
 use model::*;
 use number::constants::{H_TOL, L_TOL, MAX};
-use tank::{CubicFeetPerSecond, Feet, Reach, seconds_of};
+use tank::{CubicFeetPerSecond, Feet};
 
 // A link's state after a control has acted on it, and whether its status or setting changed.
 #[derive(Drop)]
@@ -131,21 +130,20 @@ pub fn activate(control: Control, link: Link, state: LinkState) -> Activated
     }
 }
 
-// When a tank is at a level control's target; never where the node is no tank.
-pub fn level_time(node: Node, state: NodeState, target: f64) -> Reach
-    ensures value { result ≡ level_time node.kind state target }
-    ensures result_value { seconds_of result ≡ level_seconds node.kind state target }
+// The seconds until a tank is at a target level; MAX where the node is no tank.
+fn level_time(node: Node, state: NodeState, target: f64) -> u64
+    ensures { result ≡ level_time node.kind state target }
 {
     let kind = node.kind;
     let head = state.head;
     let demand = state.demand;
     match kind {
-        NodeType::Reservoir(_) => Reach::Never,
+        NodeType::Reservoir(_) => MAX,
         NodeType::Tank(t) => {
             let level = Feet(head - t.elevation.0);
             t.time_to_reach_level(level, Feet(target), CubicFeetPerSecond(demand))
         }
-        NodeType::Junction(_) => Reach::Never,
+        NodeType::Junction(_) => MAX,
     }
 }
 
@@ -162,14 +160,8 @@ pub fn candidate(
     match condition {
         ControlCondition::HighPressure { node: _, target: _ } => MAX,
         ControlCondition::LowPressure { node: _, target: _ } => MAX,
-        ControlCondition::HighLevel { tank: _, target } => {
-            let reach = level_time(node, state, target);
-            seconds_of(reach)
-        }
-        ControlCondition::LowLevel { tank: _, target } => {
-            let reach = level_time(node, state, target);
-            seconds_of(reach)
-        }
+        ControlCondition::HighLevel { tank: _, target } => level_time(node, state, target),
+        ControlCondition::LowLevel { tank: _, target } => level_time(node, state, target),
         ControlCondition::Time { seconds } => time_candidate(seconds, time),
         ControlCondition::ClockTime { seconds } => clock_candidate(seconds, clock),
     }

@@ -7,7 +7,7 @@ use mathlib.Core.List.{List}
 use Prim.Native.Nat.{ℕ, ◌+◌}
 use native.Mathlib.Omega.{arith}
 use lib.Dec.{eqb, ltb}
-use borrow.Author.Tests.{lt_ltb}
+use borrow.Author.Tests.{lt-ltb}
 use Rattle.clock.proofs.Tests.{eqb_ind}
 use Rattle.clock.specs.Lawful.{Lawful, Start, Stepping}
 use Rattle.clock.specs.Machine.{bit}
@@ -97,7 +97,7 @@ hand_moved : (c u : Clock) (length : ℕ) → u ≡ hand c length (eqb length 0)
 hand_moved c u length =
     eqb_ind (λ b. u ≡ hand c length b → (u.instant ≡ c.instant + length) × (u.count ≡ c.count + bit (ltb 0 length))) length 0
     (λ z e. (ap (λ (k : Clock). k.instant) e ∙ rw z (omega arith), ap (λ (k : Clock). k.count) e ∙ rw z (omega arith)))
-    (λ n e. (ap (λ (k : Clock). k.instant) e, ap (λ (k : Clock). k.count) e ∙ rw (lt_ltb 0 length (omega arith))))
+    (λ n e. (ap (λ (k : Clock). k.instant) e, ap (λ (k : Clock). k.count) e ∙ rw (lt-ltb 0 length (omega arith))))
 
 step_clock : (p : Project) (s : State) → in_order p s ≡ true → (calls.step p s).state.clock ≡ hand s.clock (length_of p s) (eqb (length_of p s) 0)
 unfolding calls.step next_hydraulic_timestep moved_by

@@ -6,7 +6,7 @@ use mathlib.Core.Bool.{Bool, true, false, cond, true≢false}
 use mathlib.Core.List.{List, [], ◌∷◌, ◌++◌, append-nil, append_assoc}
 use mathlib.Core.Logic.{◌⊎◌, inl, inr, ⊎_elim}
 use native.Mathlib.Omega.{arith}
-use borrow.Author.Tests.{le-leb, le_ltb, ltb-false, leb-true, eqb-true}
+use borrow.Author.Tests.{le-leb, le-ltb, ltb-false, leb-true, eqb-true}
 use lib.Dec.{ltb, leb, eqb}
 use lib.ListN.{length, take, drop, length-drop}
 use lib.Seq.{drop-append-le, drop-drop, take_all}
@@ -68,7 +68,7 @@ wants_load false duration instant left size = tested (ltb instant duration) (ltb
 enough : (whole : Bool) (duration instant left size : ℕ) → (whole ≡ true) ⊎ (size ≤ left) → wants_input duration instant whole left size ≡ 0
 enough true duration instant left size h = refl
 enough false duration instant left size (inl z) = absurd (true≢false (sym z))
-enough false duration instant left size (inr k) = rw (le_ltb left size k) (same (ltb instant duration))
+enough false duration instant left size (inr k) = rw (le-ltb left size k) (same (ltb instant duration))
   where
     same : (b : Bool) → ◌≡◌ {A = ℕ} (cond b 0 0) 0
     same true = refl

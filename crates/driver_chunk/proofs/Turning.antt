@@ -4,9 +4,9 @@ use mathlib.Core.Path.{◌≡◌, refl, sym, ap, ◌∙◌}
 use mathlib.Core.Bool.{true, false, cond, true≢false}
 use mathlib.Core.List.{List, ◌++◌}
 use native.Mathlib.Omega.{arith}
-use borrow.Author.Tests.{lt_ltb, le_ltb, ne_eqb}
+use borrow.Author.Tests.{lt-ltb, le-ltb, ne_eqb}
 use lib.Dec.{ltb}
-use lib.ListN.{length, length_append}
+use lib.ListN.{length, length-append}
 use Rattle.clock.proofs.Lengths.{length_positive}
 use Rattle.clock.proofs.Tests.{ltb_ind, eqb_ind}
 use Rattle.clock.specs.Triggers.{length_at}
@@ -70,7 +70,7 @@ step_moves p s u same e l =
       before = omega arith;
       ends = k.instant;
       some = some;
-      counted = (k.count ∙ rw (lt_ltb 0 (step p u).length some)) ∙ ap (λ (c : ℕ). c + 1) n;
+      counted = (k.count ∙ rw (lt-ltb 0 (step p u).length some)) ∙ ap (λ (c : ℕ). c + 1) n;
       moment = u;
       ordered = e;
       long = k.length;
@@ -148,13 +148,13 @@ pub turn_more : (p : Project) (s : State) (bytes more : List ℕ) → load_bytes
 unfolding turn input_turn
 turn_more p s bytes more k =
     let four = load_bytes_lem p in
-    let longer : length (bytes ++ more) ≡ length bytes + length more = length_append bytes more in
+    let longer : length (bytes ++ more) ≡ length bytes + length more = length-append bytes more in
     let some : length bytes ≡ 0 → ⊥ = λ z. omega arith in
     let some' : length (bytes ++ more) ≡ 0 → ⊥ = λ z. omega arith in
     let k' : load_bytes p ≤ length (bytes ++ more) = omega arith in
-    rw (ne_eqb (length bytes) 0 some, ne_eqb (length (bytes ++ more)) 0 some', le_ltb (length bytes) (load_bytes p) k, le_ltb (length (bytes ++ more)) (load_bytes p) k', words_more (load_words p) bytes more k)
+    rw (ne_eqb (length bytes) 0 some, ne_eqb (length (bytes ++ more)) 0 some', le-ltb (length bytes) (load_bytes p) k, le-ltb (length (bytes ++ more)) (load_bytes p) k', words_more (load_words p) bytes more k)
 
 -- at the duration a turn looks at none
 pub turn_done : (p : Project) (s : State) (bytes more : List ℕ) → p.options.duration ≤ s.clock.instant → turn p s bytes ≡ turn p s more
 unfolding turn
-turn_done p s bytes more l = rw (le_ltb s.clock.instant p.options.duration l)
+turn_done p s bytes more l = rw (le-ltb s.clock.instant p.options.duration l)

@@ -10,7 +10,7 @@ use native.Mathlib.Omega.{arith}
 use borrow.Author.Tests.{ltb-false}
 use lib.Dec.{ltb}
 use lib.ListN.{length, take, drop, get_or, set, length-drop}
-use lib.Seq.{length_take_le, take-suc, drop-cons, set_at, append_snoc, get_or-append-add, get_or-drop, take_at, take-append-le, take-take}
+use lib.Seq.{length-take-le, take-suc, drop-cons, set_at, append_snoc, get_or-append-add, get_or-drop, take_at, take-append-le, take-take}
 use Rattle.driver_io.specs.declared.Held.{Held}
 use Rattle.driver_io.specs.Held.{Filled}
 
@@ -21,7 +21,7 @@ shifted_more buf from i h =
     let n : length (drop from buf) ≡ length buf - from = length-drop from buf in
     let k : i ≤ length (drop from buf) = omega arith in
     let m : i < length (drop from buf) = omega arith in
-    let t : length (take i (drop from buf)) ≡ i = length_take_le i (drop from buf) k in
+    let t : length (take i (drop from buf)) ≡ i = length-take-le i (drop from buf) k in
     let j : i < length buf = omega arith in
     let place : from + i ≡ length (take i (drop from buf)) + from = omega arith in
     let x : ℕ = get_or (drop from buf) i 0 in
@@ -35,19 +35,19 @@ shifted_more buf from i h =
 pub shifted_front : (buf : List ℕ) (from n : ℕ) → from + n ≤ length buf → take n (take n (drop from buf) ++ drop n buf) ≡ take n (drop from buf)
 shifted_front buf from n h =
     let l : n ≤ length (drop from buf) = omega (arith, length-drop from buf) in
-    take_at (take n (drop from buf)) (drop n buf) n (length_take_le n (drop from buf) l)
+    take_at (take n (drop from buf)) (drop n buf) n (length-take-le n (drop from buf) l)
 
 -- the front of a buffer stays where bytes are read behind it
 pub front_stays : (buf more : List ℕ) (have n : ℕ) → have ≤ n → n ≤ length buf → take have (take n buf ++ more) ≡ take have buf
 front_stays buf more have n k l =
-    let m : have ≤ length (take n buf) = omega (arith, length_take_le n buf l) in
+    let m : have ≤ length (take n buf) = omega (arith, length-take-le n buf l) in
     take-append-le have (take n buf) more m ∙ take-take have n buf k
 
 -- the part of a buffer from one place up to another
 pub part_length : (xs : List ℕ) (from to : ℕ) → from ≤ to → to ≤ length xs → length (take (to - from) (drop from xs)) ≡ to - from
 part_length xs from to l k =
     let m : to - from ≤ length (drop from xs) = omega (arith, length-drop from xs) in
-    length_take_le (to - from) (drop from xs) m
+    length-take-le (to - from) (drop from xs) m
 
 -- a buffer that was shifted and read into
 pub filled : (h : Held) (wants : ℕ) (before mid after : List ℕ) (kept n : ℕ) → h.used ≤ h.have → h.have ≤ length before

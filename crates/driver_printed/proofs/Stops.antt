@@ -5,7 +5,7 @@ use mathlib.Core.Path.{◌≡◌, refl, sym, ap, ◌∙◌}
 use mathlib.Core.Bool.{true, false, true≢false}
 use mathlib.Core.List.{List, [], ◌∷◌, ◌++◌}
 use native.Mathlib.Omega.{arith}
-use lib.ListN.{length, length_append}
+use lib.ListN.{length, length-append}
 use Rattle.clock.proofs.Lengths.{length_within}
 use Rattle.listing.specs.Listing.{Line}
 use Rattle.stops.specs.Stops.{stops, stops_above}
@@ -76,7 +76,7 @@ module _ (p : Project) (e : stops_foreseen p ≡ true) where
         all =
             line
             ∙ rw (h.all, ← k.begins, ← one, k.ends, stops_append o ts 0 from seconds, z);
-        count = k.counted ∙ rw (h.count, line) (omega (arith, length_append (ends r.lines) ((from + seconds) ∷ [])));
+        count = k.counted ∙ rw (h.count, line) (omega (arith, length-append (ends r.lines) ((from + seconds) ∷ [])));
       }
 
   -- at the duration it has come to all of them

@@ -6,8 +6,8 @@ use mathlib.Core.Bool.{Bool, true, false, cond}
 use mathlib.Core.List.{List, [], ◌++◌, append_assoc}
 use native.Mathlib.Nat.{add_comm, add-suc, add-zero}
 use native.Mathlib.Omega.{arith}
-use borrow.Author.Tests.{lt_ltb, le_ltb, eq-eqb, ne_eqb}
-use lib.ListN.{length, take, drop, length_append, get_or_append}
+use borrow.Author.Tests.{lt-ltb, le-ltb, eq-eqb, ne_eqb}
+use lib.ListN.{length, take, drop, length-append, get_or-append}
 use lib.Seq.{drop_at}
 use Rattle.listing.specs.Listing.{Line, header, text_of, refused_line}
 use Rattle.listing.proofs.Listing.{text_append}
@@ -132,7 +132,7 @@ count_refused input e = rw (eq-eqb (image_words input) 0 e)
 
 pub image_cut : (input : List ℕ) → length input < 4 + image_words input * 4 → (image_words input ≡ 0 → ⊥) → printed input ≡ refused_line 1
 unfolding printed
-image_cut input h e = rw (ne_eqb (image_words input) 0 e, lt_ltb (length input) (4 + image_words input * 4) h)
+image_cut input h e = rw (ne_eqb (image_words input) 0 e, lt-ltb (length input) (4 + image_words input * 4) h)
 
 -- the count is told by the first four bytes
 count_front : (head rest : List ℕ) → length head ≡ 4 → image_words (head ++ rest) ≡ image_words head
@@ -143,8 +143,8 @@ count_front head rest e =
     let c : 2 < length head = omega arith in
     let d : 3 < length head = omega arith in
     let n : 4 ≤ length head = omega arith in
-    let m : 4 ≤ length (head ++ rest) = omega (arith, length_append head rest) in
-    rw (le_ltb (length head) 4 n, le_ltb (length (head ++ rest)) 4 m, get_or_append head rest 0 0 a, get_or_append head rest 0 1 b, get_or_append head rest 0 2 c, get_or_append head rest 0 3 d)
+    let m : 4 ≤ length (head ++ rest) = omega (arith, length-append head rest) in
+    rw (le-ltb (length head) 4 n, le-ltb (length (head ++ rest)) 4 m, get_or-append head rest 0 0 a, get_or-append head rest 0 1 b, get_or-append head rest 0 2 c, get_or-append head rest 0 3 d)
 
 module _ (head image rest : List ℕ) (e : length head ≡ 4) (z : image_words head ≡ 0 → ⊥) (k : length image ≡ image_words head * 4) where
   -- an image that is whole: the program goes on with what comes after it
@@ -153,13 +153,13 @@ module _ (head image rest : List ℕ) (e : length head ≡ 4) (z : image_words h
   image_whole =
       let input : List ℕ = head ++ (image ++ rest) in
       let n : image_words input ≡ image_words head = count_front head (image ++ rest) e in
-      let long : 4 + image_words head * 4 ≤ length input = omega (arith, length_append head (image ++ rest), length_append image rest) in
+      let long : 4 + image_words head * 4 ≤ length input = omega (arith, length-append head (image ++ rest), length-append image rest) in
       let words : image_words head * 4 ≤ length image = omega arith in
       let after-head : drop 4 input ≡ image ++ rest = drop_at head (image ++ rest) 4 e in
-      let size : length (head ++ image) ≡ 4 + image_words head * 4 = omega (arith, length_append head image) in
+      let size : length (head ++ image) ≡ 4 + image_words head * 4 = omega (arith, length-append head image) in
       let after-image : drop (4 + image_words head * 4) input ≡ rest =
       ap (drop (4 + image_words head * 4)) (sym (append_assoc head image rest)) ∙ drop_at (head ++ image) rest (4 + image_words head * 4) size in
-      rw (n, ne_eqb (image_words head) 0 z, le_ltb (length input) (4 + image_words head * 4) long, after-head, after-image, words_more (image_words head) image rest words)
+      rw (n, ne_eqb (image_words head) 0 z, le-ltb (length input) (4 + image_words head * 4) long, after-head, after-image, words_more (image_words head) image rest words)
 
   pub image_refused : ((decode (first_words (image_words head) image)).fault ≡ 0 → ⊥)
       → printed (head ++ (image ++ rest)) ≡ refused_line (decode (first_words (image_words head) image)).fault

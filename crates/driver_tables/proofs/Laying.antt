@@ -6,7 +6,7 @@ use mathlib.Core.List.{List, [], ◌∷◌, ◌++◌}
 use native.Mathlib.Omega.{arith}
 use borrow.Author.Tests.{ne_eqb}
 use lib.Dec.{eqb}
-use lib.ListN.{length, length_append, replicate}
+use lib.ListN.{length, length-append, replicate}
 use lib.Seq.{sets}
 use Rattle.clock.specs.declared.length.Times.{Times}
 use Rattle.model.specs.Loops.{all_below}
@@ -49,7 +49,7 @@ none_chosen test (suc n) = by (test n) (none_chosen test n)
   where
     by : (b : Bool) → all_below n (λ i. not (test i)) ≡ eqb (length (chosen test n)) 0
         → (all_below n (λ i. not (test i)) && not b) ≡ eqb (length (cond b (chosen test n ++ (n ∷ [])) (chosen test n))) 0
-    by true e = and-false (all_below n (λ i. not (test i))) ∙ sym (ne_eqb (length (chosen test n ++ (n ∷ []))) 0 (λ z. omega (arith, z, length_append (chosen test n) (n ∷ []))))
+    by true e = and-false (all_below n (λ i. not (test i))) ∙ sym (ne_eqb (length (chosen test n ++ (n ∷ []))) 0 (λ z. omega (arith, z, length-append (chosen test n) (n ∷ []))))
     by false e = and-true (all_below n (λ i. not (test i))) ∙ e
 
 -- the links at the tanks, laid out in arrays of 0

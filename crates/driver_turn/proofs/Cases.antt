@@ -4,7 +4,7 @@ use mathlib.Core.Path.{◌≡◌, refl, sym, ap, ◌∙◌, subst}
 use mathlib.Core.Bool.{true, false}
 use mathlib.Core.List.{List}
 use native.Mathlib.Omega.{arith}
-use borrow.Author.Tests.{lt_ltb, le_ltb, eq-eqb, ne_eqb}
+use borrow.Author.Tests.{lt-ltb, le-ltb, eq-eqb, ne_eqb}
 use lib.ListN.{length}
 use Rattle.listing.specs.Listing.{Line, line_text}
 use Rattle.listing.specs.Text as text
@@ -29,11 +29,11 @@ use Rattle.driver_turn.proofs.Inner.{tank_links_inner, step_length_inner, step_s
 module _ (p : Project) (s : State) (bytes : List ℕ) where
   pub turn_finished : p.options.duration ≤ s.clock.instant → turn p s bytes ≡ finished_turn s
   unfolding turn
-  turn_finished l = rw (le_ltb s.clock.instant p.options.duration l)
+  turn_finished l = rw (le-ltb s.clock.instant p.options.duration l)
 
   pub turn_goes : s.clock.instant < p.options.duration → {ready : State} → ready ≡ prepared p s → turn p s bytes ≡ input_turn p ready bytes
   unfolding turn
-  turn_goes l {ready} e = rw (lt_ltb s.clock.instant p.options.duration l) (ap (λ (x : State). input_turn p x bytes) (sym e))
+  turn_goes l {ready} e = rw (lt-ltb s.clock.instant p.options.duration l) (ap (λ (x : State). input_turn p x bytes) (sym e))
 
   pub input_none : length bytes ≡ 0 → input_turn p s bytes ≡ step_turn p s 0
   unfolding input_turn
@@ -44,14 +44,14 @@ module _ (p : Project) (s : State) (bytes : List ℕ) where
     unfolding input_turn
     input_cut k =
         let cut : length bytes < load_bytes p = rw (← n) k in
-        rw (ne_eqb (length bytes) 0 some, lt_ltb (length bytes) (load_bytes p) cut)
+        rw (ne_eqb (length bytes) 0 some, lt-ltb (length bytes) (load_bytes p) cut)
 
     module _ (k : words * 4 ≤ length bytes) {answer : Called} (m : answer ≡ load p (first_words (load_words p) bytes) s) where
       input_load : input_turn p s bytes ≡ load_turn p answer
       unfolding input_turn
       input_load =
           let whole : load_bytes p ≤ length bytes = rw (← n) k in
-          rw (ne_eqb (length bytes) 0 some, le_ltb (length bytes) (load_bytes p) whole) (ap (load_turn p) (sym m))
+          rw (ne_eqb (length bytes) 0 some, le-ltb (length bytes) (load_bytes p) whole) (ap (load_turn p) (sym m))
 
       pub input_taken : answer.number ≡ 0 → input_turn p s bytes ≡ step_turn p answer.state (words * 4)
       unfolding load_turn

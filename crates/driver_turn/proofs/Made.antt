@@ -6,7 +6,7 @@ use mathlib.Core.List.{List}
 use native.Mathlib.Omega.{arith}
 use lib.Dec.{eqb}
 use lib.Ieee.{Float, nan}
-use lib.ListN.{length, length_set, get_or, take, drop}
+use lib.ListN.{length, length-set, get_or, take, drop}
 use Rattle.number.specs.Constants.{decimal}
 use Rattle.clock.specs.Steps.{advanced}
 use Rattle.clock.specs.declared.hand.Clock.{Clock}
@@ -47,7 +47,7 @@ filled_long : (t : Inputs) (time : ℕ) (w : Written) → length (filled t time 
 unfolding filled multipliers_filled
 filled_long t time w =
     let put : ℕ → List Float → List Float = multiplier_put t.lengths t.multipliers t.start t.timestep time in
-    length_set (through 32 put w.table) 32 (decimal 1 0) ∙ kept_length nan 32 put (λ k xs. length_set xs k (multiplier_in_force (take (get_or t.lengths k 0) (drop (k * 168) t.multipliers)) t.start t.timestep time)) w.table
+    length-set (through 32 put w.table) 32 (decimal 1 0) ∙ kept_length nan 32 put (λ k xs. length-set xs k (multiplier_in_force (take (get_or t.lengths k 0) (drop (k * 168) t.multipliers)) t.start t.timestep time)) w.table
 
 pub table_kept : (t : Inputs) (tanks : List ℕ) (n in-force time : ℕ) (w : Written) → length (patterns_applied t tanks n in-force time w).table ≡ length w.table
 unfolding patterns_applied

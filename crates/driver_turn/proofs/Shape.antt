@@ -4,7 +4,7 @@ use mathlib.Core.Path.{◌≡◌, refl, ◌∙◌}
 use mathlib.Core.Bool.{Bool, true, false, cond}
 use mathlib.Core.List.{List}
 use lib.Dec.{eqb}
-use lib.ListN.{length, length_set}
+use lib.ListN.{length, length-set}
 use Rattle.clock.specs.Steps.{clock_time, advanced}
 use Rattle.model.specs.Patterns.{period}
 use Rattle.model.specs.declared.project.Project.{Project}
@@ -29,7 +29,7 @@ module _ (p : Project) (s : State) where
   pub patterns_alike : Alike (apply_patterns p s) s
   unfolding apply_patterns
   patterns_alike = record {
-    nodes = kept (λ (v : State). length v.nodes) (node_patterned p (multiplier_of p (period p.options.pattern_start p.options.pattern s.clock.instant))) s (λ i v. length_set v.nodes i _) p.counts.nodes;
+    nodes = kept (λ (v : State). length v.nodes) (node_patterned p (multiplier_of p (period p.options.pattern_start p.options.pattern s.clock.instant))) s (λ i v. length-set v.nodes i _) p.counts.nodes;
     links = kept (λ (v : State). length v.links) (node_patterned p (multiplier_of p (period p.options.pattern_start p.options.pattern s.clock.instant))) s (λ i v. refl) p.counts.nodes;
   }
 
@@ -37,22 +37,22 @@ module _ (p : Project) (s : State) where
   unfolding apply_controls
   controls_alike = record {
     nodes = kept (λ (v : State). length v.nodes) (control_turn p s.clock.instant (clock_time p.options.start_clock s.clock.instant)) s (λ i v. refl) p.counts.controls;
-    links = kept (λ (v : State). length v.links) (control_turn p s.clock.instant (clock_time p.options.start_clock s.clock.instant)) s (λ i v. length_set v.links _ _) p.counts.controls;
+    links = kept (λ (v : State). length v.links) (control_turn p s.clock.instant (clock_time p.options.start_clock s.clock.instant)) s (λ i v. length-set v.links _ _) p.counts.controls;
   }
 
   pub closing_alike : Alike (update_tank_links p s) s
   unfolding update_tank_links close_links
   closing_alike = record {
-    nodes = kept (λ (v : State). length v.nodes) (node_summed p (close_links p s)) (close_links p s) (λ i v. length_set v.nodes i _) p.counts.nodes
+    nodes = kept (λ (v : State). length v.nodes) (node_summed p (close_links p s)) (close_links p s) (λ i v. length-set v.nodes i _) p.counts.nodes
         ∙ kept (λ (v : State). length v.nodes) (link_closed p) s (λ i v. refl) p.counts.links;
     links = kept (λ (v : State). length v.links) (node_summed p (close_links p s)) (close_links p s) (λ i v. refl) p.counts.nodes
-        ∙ kept (λ (v : State). length v.links) (link_closed p) s (λ i v. length_set v.links i _) p.counts.links;
+        ∙ kept (λ (v : State). length v.links) (link_closed p) s (λ i v. length-set v.links i _) p.counts.links;
   }
 
   moving_alike : (seconds : ℕ) → Alike (update_tanks p s seconds) s
   unfolding update_tanks
   moving_alike seconds = record {
-    nodes = kept (λ (v : State). length v.nodes) (node_moved p seconds) s (λ i v. length_set v.nodes i _) p.counts.nodes;
+    nodes = kept (λ (v : State). length v.nodes) (node_moved p seconds) s (λ i v. length-set v.nodes i _) p.counts.nodes;
     links = kept (λ (v : State). length v.links) (node_moved p seconds) s (λ i v. refl) p.counts.nodes;
   }
 
@@ -70,8 +70,8 @@ module _ (p : Project) (s : State) where
 pub load_alike : (p : Project) (words : List ℕ) (s : State) → Alike (take_load p words s) s
 unfolding take_load load_flows
 load_alike p words s = record {
-  nodes = kept (λ (v : State). length v.nodes) (node_loaded p words (load_flows p words s)) (load_flows p words s) (λ i v. length_set v.nodes i _) p.counts.nodes
+  nodes = kept (λ (v : State). length v.nodes) (node_loaded p words (load_flows p words s)) (load_flows p words s) (λ i v. length-set v.nodes i _) p.counts.nodes
       ∙ kept (λ (v : State). length v.nodes) (flow_loaded words) s (λ i v. refl) p.counts.links;
   links = kept (λ (v : State). length v.links) (node_loaded p words (load_flows p words s)) (load_flows p words s) (λ i v. refl) p.counts.nodes
-      ∙ kept (λ (v : State). length v.links) (flow_loaded words) s (λ i v. length_set v.links i _) p.counts.links;
+      ∙ kept (λ (v : State). length v.links) (flow_loaded words) s (λ i v. length-set v.links i _) p.counts.links;
 }

@@ -10,8 +10,8 @@ use native.Mathlib.Omega.{arith}
 use borrow.Author.Tests.{le-leb, leb-true}
 use lib.Dec.{leb}
 use lib.Ieee.{Float, nan}
-use lib.ListN.{length, get_or, set, replicate, length_set, length-replicate}
-use lib.Seq.{get_or-set_same, get_or_set_other}
+use lib.ListN.{length, get_or, set, replicate, length-set, length-replicate}
+use lib.Seq.{get_or-set_same, get_or-set_other}
 use Rattle.model.specs.Blank.{empty_project, blank_node, blank_link, blank_control, blank_premise}
 use Rattle.model.specs.Loops.{through, all_below}
 use Rattle.model.specs.declared.control.Control.{Control}
@@ -78,13 +78,13 @@ module _ (p : List ℕ) (k : ℕ) (ms : List Float) where
   placed_length : (n : ℕ) → length (through n (multiplier_placed p k) ms) ≡ length ms
   unfolding through
   placed_length zero = refl
-  placed_length (suc n) = length_set (so_far n) (k * 168 + n) (number p (2 * n)) ∙ placed_length n
+  placed_length (suc n) = length-set (so_far n) (k * 168 + n) (number p (2 * n)) ∙ placed_length n
 
   -- below them nothing changes
   placed_below : (n j : ℕ) → j < k * 168 → get_or (through n (multiplier_placed p k) ms) j nan ≡ get_or ms j nan
   unfolding through
   placed_below zero j l = refl
-  placed_below (suc n) j l = get_or_set_other (so_far n) (k * 168 + n) j (number p (2 * n)) nan (λ e. omega arith) ∙ placed_below n j l
+  placed_below (suc n) j l = get_or-set_other (so_far n) (k * 168 + n) j (number p (2 * n)) nan (λ e. omega arith) ∙ placed_below n j l
 
   -- and each stands in its place
   placed_at : (n i : ℕ) → i < n → n ≤ 168 → k < 32 → length ms ≡ 5376 → get_or (through n (multiplier_placed p k) ms) (k * 168 + i) nan ≡ number p (2 * i)
@@ -93,7 +93,7 @@ module _ (p : List ℕ) (k : ℕ) (ms : List Float) where
   placed_at (suc n) i l m c e =
       ⊎_elim
       (λ q. rw q (get_or-set_same (so_far n) (k * 168 + n) (number p (2 * n)) nan (omega (arith, placed_length n))))
-      (λ h. get_or_set_other (so_far n) (k * 168 + n) (k * 168 + i) (number p (2 * n)) nan (λ q. omega arith) ∙ placed_at n i h (omega arith) c e)
+      (λ h. get_or-set_other (so_far n) (k * 168 + n) (k * 168 + i) (number p (2 * n)) nan (λ q. omega arith) ∙ placed_at n i h (omega arith) c e)
       (eq-or-lt_of_le (le_of_suc-le-suc l))
 
 half : (n : ℕ) → 2 ≤ n → n ≤ 336 → (1 ≤ n / 2) × (n / 2 ≤ 168)
@@ -178,7 +178,7 @@ placed_kept stage t p (entries.Options o) kept taken = record {
 }
 placed_kept stage t p entries.Pattern kept taken = record {
   few = record { patterns = omega (arith, taken.1); nodes = kept.few.nodes; links = kept.few.links; controls = kept.few.controls; premises = kept.few.premises };
-  long_lengths = length_set t.lengths _ _ ∙ kept.long_lengths;
+  long_lengths = length-set t.lengths _ _ ∙ kept.long_lengths;
   long_multipliers = placed_length p t.counts.patterns t.multipliers (length p / 2) ∙ kept.long_multipliers;
   long_nodes = kept.long_nodes;
   long_links = kept.long_links;
@@ -196,7 +196,7 @@ placed_kept stage t p (entries.Node n) kept taken = record {
   few = record { patterns = kept.few.patterns; nodes = omega (arith, taken.1); links = kept.few.links; controls = kept.few.controls; premises = kept.few.premises };
   long_lengths = kept.long_lengths;
   long_multipliers = kept.long_multipliers;
-  long_nodes = length_set t.nodes _ _ ∙ kept.long_nodes;
+  long_nodes = length-set t.nodes _ _ ∙ kept.long_nodes;
   long_links = kept.long_links;
   long_controls = kept.long_controls;
   long_premises = kept.long_premises;
@@ -219,7 +219,7 @@ placed_kept stage t p (entries.Link l) kept taken = record {
   long_lengths = kept.long_lengths;
   long_multipliers = kept.long_multipliers;
   long_nodes = kept.long_nodes;
-  long_links = length_set t.links _ _ ∙ kept.long_links;
+  long_links = length-set t.links _ _ ∙ kept.long_links;
   long_controls = kept.long_controls;
   long_premises = kept.long_premises;
   patterns = kept.patterns;
@@ -240,7 +240,7 @@ placed_kept stage t p (entries.Control c) kept taken = record {
   long_multipliers = kept.long_multipliers;
   long_nodes = kept.long_nodes;
   long_links = kept.long_links;
-  long_controls = length_set t.controls _ _ ∙ kept.long_controls;
+  long_controls = length-set t.controls _ _ ∙ kept.long_controls;
   long_premises = kept.long_premises;
   patterns = kept.patterns;
   nodes = kept.nodes;
@@ -257,7 +257,7 @@ placed_kept stage t p (entries.Premise q) kept taken = record {
   long_nodes = kept.long_nodes;
   long_links = kept.long_links;
   long_controls = kept.long_controls;
-  long_premises = length_set t.premises _ _ ∙ kept.long_premises;
+  long_premises = length-set t.premises _ _ ∙ kept.long_premises;
   patterns = kept.patterns;
   nodes = kept.nodes;
   links = kept.links;

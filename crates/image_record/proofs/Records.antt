@@ -9,7 +9,7 @@ use native.Mathlib.Nat.{add-sub_cancel_left}
 use borrow.Author.Tests.{le-leb, lt-leb, leb-true, leb-false, ltb-true, eqb-true}
 use lib.Dec.{leb, eqb}
 use lib.ListN.{length, take, drop, get_or, length-drop}
-use lib.Seq.{length_take_le}
+use lib.Seq.{length-take-le}
 use Rattle.model.specs.declared.project.Counts.{Counts}
 use Rattle.model.proofs.Loops.{both_left, both_right}
 use Rattle.table_ranges.specs.Records.{options_ok}
@@ -160,7 +160,7 @@ module _ (ws : List ℕ) (stage : ℕ) (c : Counts) where
   taken_in true s ok =
       let h = get_or ws 0 0 in
       let f : 1 + size_of h ≤ length ws = leb-true _ _ s in
-      let n : length (payload ws) ≡ size_of h = length_take_le (size_of h) (drop 1 ws) (rw length-drop (omega arith)) in
+      let n : length (payload ws) ≡ size_of h = length-take-le (size_of h) (drop 1 ws) (rw length-drop (omega arith)) in
       rw (record_in ws stage c h refl ok f)
       (entry_taken stage c (payload ws) (kind_of h) (header_stage stage h ok) (rw n (header_size stage h ok)))
 

@@ -7,11 +7,10 @@ use Rattle.number.specs.Compare.{compare_f64}
 use Rattle.number.specs.Order.{clamp}
 use Rattle.number.specs.Seconds.{round_to_u64, u64_to_f64}
 use Rattle.clock.specs.Steps.{time_candidate, clock_candidate, smallest_positive}
-use Rattle.tank.specs.Reach.{reach_of}
-use Rattle.tank.specs.Tanks.{volume_at_level, gap_seconds, seconds_to_reach_level, seconds_to_fill_or_drain, time_to_reach_level, time_to_fill_or_drain, new_head, head_after}
+use Rattle.tank.specs.Tanks.{volume_at_level, gap_time, time_to_reach_level, time_to_fill_or_drain, new_head, head_after}
 use Rattle.model.specs.Patterns.{multiplier_at}
 use Rattle.instants.specs.Instants.{Instant, starred}
 
 starred_hold : map (λ (i : Instant). i.answer) starred ≡ map (λ (i : Instant). i.due) starred
-unfolding starred time_to_fill_or_drain time_to_reach_level reach_of seconds_to_fill_or_drain seconds_to_reach_level gap_seconds volume_at_level new_head head_after u64_to_f64 of_int clamp compare_f64 round_to_u64 decimal time_candidate clock_candidate smallest_positive multiplier_at lt eq le neg add sub mul div
+unfolding starred time_to_fill_or_drain time_to_reach_level gap_time volume_at_level new_head head_after u64_to_f64 of_int clamp compare_f64 round_to_u64 decimal time_candidate clock_candidate smallest_positive multiplier_at lt eq le neg add sub mul div
 starred_hold = refl

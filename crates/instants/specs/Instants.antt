@@ -5,9 +5,7 @@ use Rattle.number.specs.Constants.{decimal, MAX}
 use Rattle.number.specs.Compare.{compare_f64}
 use Rattle.number.specs.declared.compare.ComparisonOperator.TheVariants.{Eq, Ne, Gt, Lt, Ge, Le}
 use Rattle.clock.specs.Steps.{clock_time, smallest_positive}
-use Rattle.tank.specs.Tanks.{seconds_to_reach_level, seconds_to_fill_or_drain, time_to_reach_level, time_to_fill_or_drain, head_after}
-use Rattle.tank.specs.declared.reach.Reach.{Reach}
-use Rattle.tank.specs.declared.reach.Reach.TheVariants.{Arrived, Seconds}
+use Rattle.tank.specs.Tanks.{time_to_reach_level, time_to_fill_or_drain, head_after}
 use Rattle.tank.specs.declared.tank.Tank.{Tank}
 use Rattle.tank.specs.declared.units.Feet.{Feet}
 use Rattle.tank.specs.declared.units.CubicFeetPerSecond.{CubicFeetPerSecond}
@@ -17,10 +15,9 @@ use Rattle.model.specs.declared.control.ControlCondition.{ControlCondition}
 use Rattle.model.specs.declared.control.ControlCondition.TheVariants.{Time, ClockTime}
 use Rattle.control.specs.Controls.{candidate}
 
--- an answer: seconds, the time to a level, a number or a truth
+-- an answer: seconds, a number or a truth
 pub data Answer : Type 0 where
   seconds : ℕ → Answer
-  reach : Reach → Answer
   number : Float → Answer
   truth : Bool → Answer
 
@@ -56,28 +53,19 @@ T = record {
 abbrev pub due_at : ControlCondition → ℕ → ℕ → ℕ
 due_at c time clock = candidate c blank_node blank_node_state time clock
 
--- A time to a level stands twice: as document 01 has it, in the Rust's seconds, and as document 02's R-5 has it, "in document 01's cases .. too".
 unfoldable pub starred : List Instant
 starred =
     -- "T at level 10, flow 1: 628 s. Flow 2: 314 s."
-    seconds (seconds_to_fill_or_drain T (feet 10 0) (inflow 1)) is seconds 628
-    ∷ reach (time_to_fill_or_drain T (feet 10 0) (inflow 1)) is reach (Seconds 628)
-    ∷ seconds (seconds_to_fill_or_drain T (feet 10 0) (inflow 2)) is seconds 314
-    ∷ reach (time_to_fill_or_drain T (feet 10 0) (inflow 2)) is reach (Seconds 314)
+    seconds (time_to_fill_or_drain T (feet 10 0) (inflow 1)) is seconds 628
+    ∷ seconds (time_to_fill_or_drain T (feet 10 0) (inflow 2)) is seconds 314
     -- "Level 12, flow -1: time to least 3,770, time to greatest 0, fill-or-drain 0."
-    ∷ seconds (seconds_to_reach_level T (feet 12 0) (feet 0 0) (outflow 1)) is seconds 3770
-    ∷ reach (time_to_reach_level T (feet 12 0) (feet 0 0) (outflow 1)) is reach (Seconds 3770)
-    ∷ seconds (seconds_to_reach_level T (feet 12 0) (feet 12 0) (outflow 1)) is seconds 0
-    ∷ reach (time_to_reach_level T (feet 12 0) (feet 12 0) (outflow 1)) is reach Arrived
-    ∷ seconds (seconds_to_fill_or_drain T (feet 12 0) (outflow 1)) is seconds 0
-    ∷ reach (time_to_fill_or_drain T (feet 12 0) (outflow 1)) is reach Arrived
+    ∷ seconds (time_to_reach_level T (feet 12 0) (feet 0 0) (outflow 1)) is seconds 3770
+    ∷ seconds (time_to_reach_level T (feet 12 0) (feet 12 0) (outflow 1)) is seconds 0
+    ∷ seconds (time_to_fill_or_drain T (feet 12 0) (outflow 1)) is seconds 0
     -- "Level 11.999: gap below 0.5, so 0. Level 11.998, flow 1: 1; flow 2: 0."
-    ∷ seconds (seconds_to_fill_or_drain T (feet 11999 3) (inflow 1)) is seconds 0
-    ∷ reach (time_to_fill_or_drain T (feet 11999 3) (inflow 1)) is reach Arrived
-    ∷ seconds (seconds_to_fill_or_drain T (feet 11998 3) (inflow 1)) is seconds 1
-    ∷ reach (time_to_fill_or_drain T (feet 11998 3) (inflow 1)) is reach (Seconds 1)
-    ∷ seconds (seconds_to_fill_or_drain T (feet 11998 3) (inflow 2)) is seconds 0
-    ∷ reach (time_to_fill_or_drain T (feet 11998 3) (inflow 2)) is reach Arrived
+    ∷ seconds (time_to_fill_or_drain T (feet 11999 3) (inflow 1)) is seconds 0
+    ∷ seconds (time_to_fill_or_drain T (feet 11998 3) (inflow 1)) is seconds 1
+    ∷ seconds (time_to_fill_or_drain T (feet 11998 3) (inflow 2)) is seconds 0
     -- "Head 110, demand 1, 3,600 s: head 112. Demand -1: head 100."
     ∷ number (head_after T (inflow 1) 3600 (feet 110 0)).0 is number (decimal 112 0)
     ∷ number (head_after T (outflow 1) 3600 (feet 110 0)).0 is number (decimal 100 0)

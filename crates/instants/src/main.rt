@@ -5,7 +5,7 @@ use libc::STDOUT_FILENO;
 use model::*;
 use number::ComparisonOperator;
 use number::constants::MAX;
-use tank::{CubicFeet, CubicFeetPerSecond, Feet, Reach, Tank, seconds_of};
+use tank::{CubicFeet, CubicFeetPerSecond, Feet, Tank};
 
 fn put(text: &[u8]) {
     io::write_all(STDOUT_FILENO, text);
@@ -16,20 +16,6 @@ fn seconds(what: &[u8], n: u64) {
     put(b": ");
     io::print_decimal(STDOUT_FILENO, n);
     put(b"\n");
-}
-
-// A time to a level, in words where it is no count of seconds.
-fn reached(what: &[u8], reach: Reach) {
-    put(what);
-    match reach {
-        Reach::Arrived => put(b": arrived\n"),
-        Reach::Seconds(n) => {
-            put(b": ");
-            io::print_decimal(STDOUT_FILENO, n);
-            put(b"\n");
-        }
-        Reach::Never => put(b": never\n"),
-    }
 }
 
 fn bits(what: &[u8], x: f64) {
@@ -60,11 +46,11 @@ fn tank_t() -> Tank {
     }
 }
 
-fn fill_or_drain(level: f64, flow: f64) -> Reach {
+fn fill_or_drain(level: f64, flow: f64) -> u64 {
     tank_t().time_to_fill_or_drain(Feet(level), CubicFeetPerSecond(flow))
 }
 
-fn reach(level: f64, target: f64, flow: f64) -> Reach {
+fn reach(level: f64, target: f64, flow: f64) -> u64 {
     tank_t().time_to_reach_level(Feet(level), Feet(target), CubicFeetPerSecond(flow))
 }
 
@@ -74,17 +60,17 @@ fn head_after(demand: f64) -> f64 {
 }
 
 fn tanks() {
-    reached(b"level 10, flow 1", fill_or_drain(10.0, 1.0));
-    reached(b"level 10, flow 2", fill_or_drain(10.0, 2.0));
-    reached(b"level 12, flow -1, to least", reach(12.0, 0.0, -1.0));
-    reached(b"level 12, flow -1, to greatest", reach(12.0, 12.0, -1.0));
-    reached(
+    seconds(b"level 10, flow 1", fill_or_drain(10.0, 1.0));
+    seconds(b"level 10, flow 2", fill_or_drain(10.0, 2.0));
+    seconds(b"level 12, flow -1, to least", reach(12.0, 0.0, -1.0));
+    seconds(b"level 12, flow -1, to greatest", reach(12.0, 12.0, -1.0));
+    seconds(
         b"level 12, flow -1, fill or drain",
         fill_or_drain(12.0, -1.0),
     );
-    reached(b"level 11.999, flow 1", fill_or_drain(11.999, 1.0));
-    reached(b"level 11.998, flow 1", fill_or_drain(11.998, 1.0));
-    reached(b"level 11.998, flow 2", fill_or_drain(11.998, 2.0));
+    seconds(b"level 11.999, flow 1", fill_or_drain(11.999, 1.0));
+    seconds(b"level 11.998, flow 1", fill_or_drain(11.998, 1.0));
+    seconds(b"level 11.998, flow 2", fill_or_drain(11.998, 2.0));
     bits(b"head 110, demand 1, 3600 s", head_after(1.0));
     bits(b"head 110, demand -1, 3600 s", head_after(-1.0));
 }
@@ -183,12 +169,12 @@ fn fast_path() {
     );
 }
 
-// "gap / flow of 0.49999999999999994 gives 0; flow 5e-324 with gap 1 gives MAX": arrived and never.
+// "gap / flow of 0.49999999999999994 gives 0; flow 5e-324 with gap 1 gives MAX."
 fn gaps() {
     let below_half = tank::gap_time(CubicFeet(0.9999999999999999), CubicFeetPerSecond(2.0));
-    reached(b"gap / flow 0.49999999999999994", below_half);
+    seconds(b"gap / flow 0.49999999999999994", below_half);
     let never = tank::gap_time(CubicFeet(1.0), CubicFeetPerSecond(5e-324));
-    reached(b"gap 1, flow 5e-324", never);
+    seconds(b"gap 1, flow 5e-324", never);
 }
 
 // The worked example's steps: T alone does not move, its demand being 0.
@@ -201,7 +187,7 @@ fn worked_example() {
         start_clock: 0,
         fast: false,
     };
-    let tanks = seconds_of(fill_or_drain(10.0, 0.0));
+    let tanks = fill_or_drain(10.0, 0.0);
     seconds(
         b"worked example at 0",
         times.step_length(tanks, MAX, 0) as u64,

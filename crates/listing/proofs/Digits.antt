@@ -6,9 +6,9 @@ use mathlib.Core.Bool.{Bool, true, false, cond}
 use mathlib.Core.List.{List, [], ◌∷◌, ◌++◌, append_assoc, append-nil}
 use native.Mathlib.Nat.{pow-suc}
 use native.Mathlib.Omega.{arith}
-use borrow.Author.Tests.{lt_ltb, le_ltb}
+use borrow.Author.Tests.{lt-ltb, le-ltb}
 use lib.Dec.{ltb}
-use lib.ListN.{length, set, length_append}
+use lib.ListN.{length, set, length-append}
 use Rattle.listing.specs.Numbers.{decimal_digits, decimal_text}
 use Rattle.listing.specs.Text.{pasted}
 use Rattle.listing.proofs.Writing.{Written, written_none, written_more, written_all}
@@ -32,7 +32,7 @@ step n r (suc k) tail h c s e =
       more = k;
       count = omega arith;
       small = omega arith;
-      split = e ∙ rw (le_ltb r 10 h, append_assoc);
+      split = e ∙ rw (le-ltb r 10 h, append_assoc);
     }
 
 pub split_more : {n r : ℕ} {tail : List ℕ} → 10 ≤ r → Split n r tail → Split n (r / 10) ((48 + r % 10) ∷ tail)
@@ -41,7 +41,7 @@ split_more {n} {r} {tail} h s = step n r s.more tail h s.count s.small s.split
 one : (k r : ℕ) → r < 10 → decimal_digits k r ≡ (48 + r) ∷ []
 unfolding decimal_digits
 one zero r h = refl
-one (suc k) r h = rw (lt_ltb r 10 h)
+one (suc k) r h = rw (lt-ltb r 10 h)
 
 pub split_ended : {n r : ℕ} {tail : List ℕ} → r < 10 → Split n r tail → decimal_text n ≡ (48 + r) ∷ tail
 split_ended {n} {r} {tail} h s = s.split ∙ rw (one s.more r h)
@@ -56,7 +56,7 @@ pub digits_count : (k r : ℕ) → (1 ≤ length (decimal_digits k r)) × (lengt
 unfolding decimal_digits
 digits_count zero r = (omega arith, omega arith)
 digits_count (suc k) r =
-    let l = length_append (decimal_digits k (r / 10)) ((48 + r % 10) ∷ []) in
+    let l = length-append (decimal_digits k (r / 10)) ((48 + r % 10) ∷ []) in
     let d = digits_count k (r / 10) in
     either (ltb r 10) ((48 + r) ∷ []) (decimal_digits k (r / 10) ++ ((48 + r % 10) ∷ [])) 1 (suc (suc k)) (omega arith, omega arith) (omega (arith, l), omega (arith, l, d.1))
 
@@ -80,7 +80,7 @@ module _ {buf : List ℕ} {at n k : ℕ} (e : k ≡ length (decimal_text n)) whe
   pub spelled_last : {now : List ℕ} {i r : ℕ} → Spelled buf at n k now i r → at < i
   spelled_last {now} {i} {r} v =
       let s = v.split in
-      omega (arith, v.written.place, e, ap length s.split ∙ length_append (decimal_digits s.more r) v.tail, (digits_count s.more r).0)
+      omega (arith, v.written.place, e, ap length s.split ∙ length-append (decimal_digits s.more r) v.tail, (digits_count s.more r).0)
 
   module _ (room : at + k ≤ length buf) where
     pub spelled_more : {now : List ℕ} {i r : ℕ} → 10 ≤ r → Spelled buf at n k now i r → Spelled buf at n k (set now (i - 1) (48 + r % 10)) (i - 1) (r / 10)

@@ -5,7 +5,7 @@ use mathlib.Core.Path.{◌≡◌, refl, sym, ap, ◌∙◌}
 use mathlib.Core.List.{List, [], ◌∷◌, ◌++◌, append_assoc, append-nil}
 use native.Mathlib.Nat.{pow-suc, mul_assoc, add-zero, add-suc}
 use native.Mathlib.Omega.{arith}
-use lib.ListN.{length, set, length_append}
+use lib.ListN.{length, set, length-append}
 use Rattle.listing.specs.Numbers.{hex_digit, hex_digits, hex_text}
 use Rattle.listing.specs.Text.{pasted}
 use Rattle.listing.proofs.Writing.{Written, written_none, written_more, written_all}
@@ -13,7 +13,7 @@ use Rattle.listing.proofs.Writing.{Written, written_none, written_more, written_
 pub hex_count : (k n : ℕ) → length (hex_digits k n) ≡ k
 unfolding hex_digits
 hex_count zero n = refl
-hex_count (suc k) n = omega (arith, length_append (hex_digits k (n / 16)) (hex_digit (n % 16) ∷ []), hex_count k (n / 16))
+hex_count (suc k) n = omega (arith, length-append (hex_digits k (n / 16)) (hex_digit (n % 16) ∷ []), hex_count k (n / 16))
 
 pub hex_length : (low high : ℕ) → 17 ≡ length (hex_text low high)
 unfolding hex_text

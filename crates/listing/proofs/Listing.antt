@@ -4,7 +4,7 @@ use Prim.Native.Nat.{ℕ, ◌+◌, ◌≤◌}
 use mathlib.Core.Path.{◌≡◌, refl, sym, ap, ◌∙◌}
 use mathlib.Core.List.{List, [], ◌∷◌, ◌++◌, append_assoc, append-nil}
 use native.Mathlib.Omega.{arith}
-use lib.ListN.{length, length_append}
+use lib.ListN.{length, length-append}
 use Rattle.listing.specs.Numbers.{decimal_text}
 use Rattle.listing.specs.Listing.{step_line, labelled, Line, line_text, text_of}
 use Rattle.listing.proofs.Digits.{digits_count}
@@ -12,14 +12,14 @@ use Rattle.listing.proofs.Digits.{digits_count}
 pub step_length_lem : (from seconds : ℕ) → length (step_line from seconds) ≡ length (decimal_text from) + length (decimal_text seconds) + 2
 unfolding step_line
 step_length_lem from seconds =
-    omega (arith, length_append (decimal_text from) (32 ∷ (decimal_text seconds ++ (10 ∷ []))), length_append (decimal_text seconds) (10 ∷ []))
+    omega (arith, length-append (decimal_text from) (32 ∷ (decimal_text seconds ++ (10 ∷ []))), length-append (decimal_text seconds) (10 ∷ []))
 
 pub step_made : (from seconds : ℕ) → (((([] ++ decimal_text from) ++ (32 ∷ [])) ++ decimal_text seconds) ++ (10 ∷ [])) ≡ step_line from seconds
 unfolding step_line
 step_made from seconds = simp append_assoc
 
 pub labelled_length : (label : List ℕ) (n : ℕ) → length (labelled label n) ≡ length label + length (decimal_text n) + 1
-labelled_length label n = omega (arith, length_append label (decimal_text n ++ (10 ∷ [])), length_append (decimal_text n) (10 ∷ []))
+labelled_length label n = omega (arith, length-append label (decimal_text n ++ (10 ∷ [])), length-append (decimal_text n) (10 ∷ []))
 
 pub labelled_made : (label : List ℕ) (n : ℕ) → ((([] ++ label) ++ decimal_text n) ++ (10 ∷ [])) ≡ labelled label n
 labelled_made label n = append_assoc label (decimal_text n) (10 ∷ [])

@@ -9,20 +9,20 @@ use native.Mathlib.Omega.{arith}
 use mathlib.Core.Bool.{Bool, true, false, cond}
 use borrow.Author.Tests.{le-leb, lt-leb, leb-true, leb-false}
 use lib.Dec.{leb}
-use lib.ListN.{length, take, drop, set, length_append, length-drop, take-append-drop}
-use lib.Seq.{set_split, take_at, drop-drop, drop-append-add, length_take_le}
+use lib.ListN.{length, take, drop, set, length-append, length-drop, take-append-drop}
+use lib.Seq.{set_split, take_at, drop-drop, drop-append-add, length-take-le}
 use Rattle.listing.specs.Text.{pasted, put, after}
 
 module _ (buf : List ℕ) (at : ℕ) (a : List ℕ) (room : at + length a ≤ length buf) where
   front : length (take at buf ++ a) ≡ at + length a
   front =
       let low : at ≤ length buf = omega arith in
-      omega (arith, length_append (take at buf) a, length_take_le at buf low)
+      omega (arith, length-append (take at buf) a, length-take-le at buf low)
 
   -- a buffer keeps its length
   pub pasted_length : length (pasted buf at a) ≡ length buf
   unfolding pasted
-  pasted_length = rw (← append_assoc) (omega (arith, length_append (take at buf ++ a) (drop (at + length a) buf), front, length-drop (at + length a) buf))
+  pasted_length = rw (← append_assoc) (omega (arith, length-append (take at buf ++ a) (drop (at + length a) buf), front, length-drop (at + length a) buf))
 
   -- the front of the buffer, up to the text's end
   pub pasted_take : take (at + length a) (pasted buf at a) ≡ take at buf ++ a
@@ -39,7 +39,7 @@ module _ (buf : List ℕ) (at : ℕ) (a : List ℕ) (room : at + length a ≤ le
   pub pasted_more : (b : List ℕ) → pasted (pasted buf at a) (at + length a) b ≡ pasted buf at (a ++ b)
   unfolding pasted
   pasted_more b =
-      rw (pasted_take, pasted_drop (length b), length_append, add_assoc) (simp append_assoc)
+      rw (pasted_take, pasted_drop (length b), length-append, add_assoc) (simp append_assoc)
 
 -- no text
 pub pasted_none : (buf : List ℕ) (at : ℕ) → pasted buf at [] ≡ buf
@@ -70,7 +70,7 @@ module _ {buf : List ℕ} {at : ℕ} where
         let h : at + length text ≤ length buf = omega (arith, p.place, p.room) in
         record {
           made = e ∙ rw (p.made, p.place) (pasted_more buf at text h b);
-          place = omega (arith, q, p.place, length_append text b);
+          place = omega (arith, q, p.place, length-append text b);
           room = omega (arith, r, put_same);
         }
 

@@ -4,15 +4,15 @@ use Prim.Native.Nat.{ℕ, suc, ◌+◌, ◌≤◌, ◌<◌}
 use mathlib.Core.Path.{◌≡◌, refl, sym, ap, ◌∙◌}
 use mathlib.Core.List.{List, [], ◌∷◌, ◌++◌}
 use native.Mathlib.Omega.{arith}
-use lib.ListN.{length, take, drop, set, length_append, length_set, take-append-drop}
-use lib.Seq.{set_split, take-append-le, take-take, drop_at, length_take_le}
+use lib.ListN.{length, take, drop, set, length-append, length-set, take-append-drop}
+use lib.Seq.{set_split, take-append-le, take-take, drop_at, length-take-le}
 use Rattle.listing.specs.Text.{pasted}
 
 -- a store in front of what has been written
 stored : (buf rest : List ℕ) (j d : ℕ) → j < length buf → set (take (suc j) buf ++ rest) j d ≡ take j buf ++ (d ∷ rest)
 stored buf rest j d h =
-    let e : length (take (suc j) buf) ≡ suc j = length_take_le (suc j) buf h in
-    let inside : j < length (take (suc j) buf ++ rest) = omega (arith, length_append (take (suc j) buf) rest) in
+    let e : length (take (suc j) buf) ≡ suc j = length-take-le (suc j) buf h in
+    let inside : j < length (take (suc j) buf ++ rest) = omega (arith, length-append (take (suc j) buf) rest) in
     let low : j ≤ length (take (suc j) buf) = omega arith in
     let less : j ≤ suc j = omega arith in
     set_split (take (suc j) buf ++ rest) j d inside
@@ -35,7 +35,7 @@ module _ {buf : List ℕ} {end : ℕ} {now tail : List ℕ} where
       let m : now ≡ take (suc j) buf ++ (tail ++ drop end buf) = w.made ∙ rw e in
       record {
         place = omega (arith, w.place);
-        same = length_set now j d ∙ w.same;
+        same = length-set now j d ∙ w.same;
         made = ap (λ (l : List ℕ). set l j d) m ∙ stored buf (tail ++ drop end buf) j d inside;
       }
 

@@ -7,7 +7,7 @@ use mathlib.Core.List.{List}
 use native.Mathlib.Omega.{arith}
 use lib.Dec.{eqb, ltb}
 use lib.Ieee.{Float, nan}
-use lib.ListN.{length, get_or, length_set, length-map, get_or-map}
+use lib.ListN.{length, get_or, length-set, length-map, get_or-map}
 use lib.Seq.{ext_get_or}
 use borrow.Author.Tests.{eqb-true, ne_eqb, ltb-false}
 use Rattle.number.specs.Constants.{decimal}
@@ -95,7 +95,7 @@ module _ {p : Project} (fit : TablesFit p) (words : List ℕ) (s : State) (long 
   empty = demands_of (empty_tanks p s)
 
   both_lengths : (k : ℕ) (ds : List Float) → length (turn k ds) ≡ length ds
-  both_lengths k ds = length_set (put_at nan (end k) (gain k) ds) (start k) _ ∙ length_set ds (end k) _
+  both_lengths k ds = length-set (put_at nan (end k) (gain k) ds) (start k) _ ∙ length-set ds (end k) _
 
   abbrev empty_all : ℕ → List NodeState → List NodeState
   empty_all i = put_at blank_node_state i (emptied (node_at p i))
@@ -113,10 +113,10 @@ module _ {p : Project} (fit : TablesFit p) (words : List ℕ) (s : State) (long 
       ap (λ (v : State). v.nodes) (nodes_only N (node_loaded p words u) load_all u (λ k xs. refl) u.nodes) ∙ ap (through N load_all) (flows_keep_nodes p words s)
 
   empty_length : length empty ≡ 256
-  empty_length = length-map (empty_tanks p s).nodes demand_of ∙ ap length empty_nodes ∙ kept_length blank_node_state N empty_all (λ k xs. length_set xs k _) s.nodes ∙ long
+  empty_length = length-map (empty_tanks p s).nodes demand_of ∙ ap length empty_nodes ∙ kept_length blank_node_state N empty_all (λ k xs. length-set xs k _) s.nodes ∙ long
 
   load_length : length (demands_of (take_load p words s)) ≡ 256
-  load_length = length-map (take_load p words s).nodes demand_of ∙ ap length load_nodes ∙ kept_length blank_node_state N load_all (λ k xs. length_set xs k _) s.nodes ∙ long
+  load_length = length-map (take_load p words s).nodes demand_of ∙ ap length load_nodes ∙ kept_length blank_node_state N load_all (λ k xs. length-set xs k _) s.nodes ∙ long
 
   -- ---- at node j
   module _ (j : ℕ) where
@@ -149,7 +149,7 @@ module _ {p : Project} (fit : TablesFit p) (words : List ℕ) (s : State) (long 
 
     turn_at : (k : ℕ) (ds : List Float) → k < L → length ds ≡ length empty → get_or (turn k ds) j nan ≡ both k (get_or ds j nan)
     turn_at k ds l e =
-        put_at_lem nan (put_at nan (end k) (gain k) ds) (start k) j (lose k) (omega (arith, e, empty_length, fit.few.nodes, (fit.link k l).start, length_set ds (end k) (gain k (get_or ds (end k) nan))))
+        put_at_lem nan (put_at nan (end k) (gain k) ds) (start k) j (lose k) (omega (arith, e, empty_length, fit.few.nodes, (fit.link k l).start, length-set ds (end k) (gain k (get_or ds (end k) nan))))
         ∙ ap (out_of k) (put_at_lem nan ds (end k) j (gain k) (omega (arith, e, empty_length, fit.few.nodes, (fit.link k l).end)))
 
     sum_at : get_or (through L turn empty) j nan ≡ through L both (get_or empty j nan)

@@ -6,7 +6,7 @@ use mathlib.Core.List.{List, [], ◌∷◌, ◌++◌}
 use mathlib.Core.Logic.{⊎_elim}
 use native.Mathlib.Nat.{le_of_suc-le-suc, not-suc-le-zero, eq-or-lt_of_le}
 use native.Mathlib.Omega.{arith}
-use lib.ListN.{get_or, length, length_append, get_or_append}
+use lib.ListN.{get_or, length, length-append, get_or-append}
 use lib.Seq.{get_or-append_seam}
 use Rattle.model.specs.declared.project.Project.{Project}
 use Rattle.run_load_tables.specs.Laid.{junction_in}
@@ -30,7 +30,7 @@ values_before_lem p (suc i) = by (junction_in p.nodes i) (values_before_lem p i)
     C = junction_nodes p i
 
     by : (b : Bool) → values_before p i ≡ p.counts.links + length C → values_before p i + cond b 1 0 ≡ p.counts.links + length (cond b (C ++ (i ∷ [])) C)
-    by true e = omega (arith, e, length_append C (i ∷ []))
+    by true e = omega (arith, e, length-append C (i ∷ []))
     by false e = omega (arith, e)
 
 -- the longest load has 384 flows and 256 heads
@@ -63,5 +63,5 @@ chosen_rank test (suc n) r l = by (test n) l (chosen_rank test n r)
     by true h before =
         ⊎_elim
         (λ q. ap (λ (k : ℕ). length (chosen test (get_or (C ++ (n ∷ [])) k 0))) q ∙ ap (λ (k : ℕ). length (chosen test k)) (get_or-append_seam C n [] 0) ∙ sym q)
-        (λ k. ap (λ (j : ℕ). length (chosen test j)) (get_or_append C (n ∷ []) 0 r k) ∙ before k)
-        (eq-or-lt_of_le (le_of_suc-le-suc (omega (arith, h, length_append C (n ∷ [])))))
+        (λ k. ap (λ (j : ℕ). length (chosen test j)) (get_or-append C (n ∷ []) 0 r k) ∙ before k)
+        (eq-or-lt_of_le (le_of_suc-le-suc (omega (arith, h, length-append C (n ∷ [])))))

@@ -6,8 +6,8 @@ use mathlib.Core.List.{List, map}
 use mathlib.Core.Logic.{⊎_elim}
 use native.Mathlib.Nat.{le_of_suc-le-suc, not-suc-le-zero, eq-or-lt_of_le}
 use native.Mathlib.Omega.{arith}
-use lib.ListN.{get_or, set, length, length-map, length_set}
-use lib.Seq.{get_or-set_same, get_or_set_other}
+use lib.ListN.{get_or, set, length, length-map, length-set}
+use lib.Seq.{get_or-set_same, get_or-set_other}
 use Rattle.model.specs.Loops.{through}
 
 -- the list with g i of what stood at i in its place (d past the end)
@@ -24,12 +24,12 @@ module _ {A : Type 0} (g : ℕ → A → A) (d : A) (xs : List A) where
   pub same_length : (n : ℕ) → length (through n (changed g d) xs) ≡ length xs
   unfolding through
   same_length zero = refl
-  same_length (suc n) = simp length_set (same_length n)
+  same_length (suc n) = simp length-set (same_length n)
 
   pub from : (n k : ℕ) → n ≤ k → get_or (through n (changed g d) xs) k d ≡ get_or xs k d
   unfolding through
   from zero k h = refl
-  from (suc n) k h = get_or_set_other (so_far n) n k (next n) d (λ e. omega arith) ∙ from n k (omega arith)
+  from (suc n) k h = get_or-set_other (so_far n) n k (next n) d (λ e. omega arith) ∙ from n k (omega arith)
 
   pub below : (n k : ℕ) → k < n → n ≤ length xs → get_or (through n (changed g d) xs) k d ≡ g k (get_or xs k d)
   unfolding through
@@ -37,7 +37,7 @@ module _ {A : Type 0} (g : ℕ → A → A) (d : A) (xs : List A) where
   below (suc n) k h l =
       ⊎_elim
       (λ e. rw e (get_or-set_same (so_far n) n (next n) d (rw (same_length n) (omega arith)) ∙ ap (g n) (from n n (omega arith))))
-      (λ m. get_or_set_other (so_far n) n k (next n) d (λ e. omega arith) ∙ below n k m (omega arith))
+      (λ m. get_or-set_other (so_far n) n k (next n) d (λ e. omega arith) ∙ below n k m (omega arith))
       (eq-or-lt_of_le (le_of_suc-le-suc h))
 
 -- what owning an array of structs tells is of their machine values: the list of the structs is as long

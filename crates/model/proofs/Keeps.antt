@@ -6,8 +6,8 @@ use mathlib.Core.List.{List}
 use native.Mathlib.Omega.{arith}
 use lib.Dec.{eqb, ltb}
 use borrow.Author.Tests.{eqb-true, eqb-false, ltb-true, ltb-false}
-use lib.ListN.{length, get_or, set, length_set, get_or-eq_default}
-use lib.Seq.{get_or-set_same, get_or_set_other}
+use lib.ListN.{length, get_or, set, length-set, get_or-eq_default}
+use lib.Seq.{get_or-set_same, get_or-set_other}
 use Rattle.model.specs.Loops.{through}
 
 -- P, at 0 of the start and handed on from i to i + 1 by turn i, holds at the end
@@ -21,7 +21,7 @@ pub set_keeps : {A : Type 0} (P : A → Type 0) (l : List A) (k i : ℕ) (v d : 
 set_keeps P l k i v d new old = go (eqb i k) (ltb k (length l)) refl refl
   where
     go : (a b : Bool) → eqb i k ≡ a → ltb k (length l) ≡ b → P (get_or (set l k v) i d)
-    go false b x y = subst P (sym (get_or_set_other l k i v d (eqb-false i k x))) old
+    go false b x y = subst P (sym (get_or-set_other l k i v d (eqb-false i k x))) old
     go true true x y =
         let e : i ≡ k = eqb-true i k x in
         subst P (sym (ap (λ (j : ℕ). get_or (set l k v) j d) e ∙ get_or-set_same l k v d (ltb-true k (length l) y))) (new e)
@@ -29,5 +29,5 @@ set_keeps P l k i v d new old = go (eqb i k) (ltb k (length l)) refl refl
         let e : i ≡ k = eqb-true i k x in
         let m : length l ≤ k = ltb-false k (length l) y in
         let past : get_or l i d ≡ d = get_or-eq_default l d (omega arith) in
-        let past' : get_or (set l k v) i d ≡ d = get_or-eq_default (set l k v) d (omega (arith, length_set l k v)) in
+        let past' : get_or (set l k v) i d ≡ d = get_or-eq_default (set l k v) d (omega (arith, length-set l k v)) in
         subst P (past ∙ sym past') old

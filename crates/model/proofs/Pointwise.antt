@@ -6,9 +6,9 @@ use mathlib.Core.Bool.{Bool, true, false, cond}
 use mathlib.Core.List.{List, [], ◌∷◌, map}
 use native.Mathlib.Omega.{arith}
 use lib.Dec.{eqb, ltb}
-use borrow.Author.Tests.{eqb-true, eqb-false, ltb-true, ltb-false, lt_ltb, le_ltb}
-use lib.ListN.{length, get_or, set, length_set}
-use lib.Seq.{get_or-set_same, get_or_set_other}
+use borrow.Author.Tests.{eqb-true, eqb-false, ltb-true, ltb-false, lt-ltb, le-ltb}
+use lib.ListN.{length, get_or, set, length-set}
+use lib.Seq.{get_or-set_same, get_or-set_other}
 use Rattle.model.specs.Loops.{through}
 use Rattle.model.specs.declared.state.NodeState.{NodeState}
 use Rattle.model.specs.declared.state.State.{State}
@@ -57,7 +57,7 @@ module _ {A : Type 0} (d : A) where
     where
       go : (b : Bool) → eqb i j ≡ b → get_or (set xs i (f (get_or xs i d))) j d ≡ cond b (f (get_or xs j d)) (get_or xs j d)
       go true e = let q : i ≡ j = eqb-true i j e in rw (← q) (get_or-set_same xs i (f (get_or xs i d)) d l)
-      go false e = get_or_set_other xs i j (f (get_or xs i d)) d (λ q. eqb-false i j e (sym q))
+      go false e = get_or-set_other xs i j (f (get_or xs i d)) d (λ q. eqb-false i j e (sym q))
 
   pub kept_length : (n : ℕ) (F : ℕ → List A → List A) → ((k : ℕ) (xs : List A) → length (F k xs) ≡ length xs) → (xs : List A) → length (through n F xs) ≡ length xs
   unfolding through
@@ -77,26 +77,26 @@ module _ {A : Type 0} (d : A) where
 -- a loop that acts at j only in turn j
 pub hit : {S : Type 0} (n j : ℕ) (g : ℕ → S → S) (s : S) → through n (λ i x. cond (eqb i j) (g i x) x) s ≡ cond (ltb j n) (g j s) s
 unfolding through
-hit zero j g s = rw (le_ltb j 0 (omega arith))
+hit zero j g s = rw (le-ltb j 0 (omega arith))
 hit {S} (suc n) j g s = go (through n (λ i x. cond (eqb i j) (g i x) x) s) (hit n j g s) (eqb n j) refl
   where
     go : (before : S) → before ≡ cond (ltb j n) (g j s) s → (a : Bool) → eqb n j ≡ a → cond a (g n before) before ≡ cond (ltb j (suc n)) (g j s) s
     go before r true e =
         let q : n ≡ j = eqb-true n j e in
-        rw (r, q, le_ltb j j (omega arith), lt_ltb j (suc j) (omega arith))
+        rw (r, q, le-ltb j j (omega arith), lt-ltb j (suc j) (omega arith))
     go before r false e =
         let m : n ≡ j → ⊥ = eqb-false n j e in
         r ∙ ap (λ (b : Bool). cond b (g j s) s) (lower (ltb j n) refl m)
       where
         lower : (b : Bool) → ltb j n ≡ b → (n ≡ j → ⊥) → b ≡ ltb j (suc n)
-        lower true f m = let l : j < n = ltb-true j n f in sym (lt_ltb j (suc n) (omega arith))
-        lower false f m = let l : n ≤ j = ltb-false j n f in sym (le_ltb j (suc n) (omega arith))
+        lower true f m = let l : j < n = ltb-true j n f in sym (lt-ltb j (suc n) (omega arith))
+        lower false f m = let l : n ≤ j = ltb-false j n f in sym (le-ltb j (suc n) (omega arith))
 
 -- a loop that puts g i of what stood there at each entry i below n
 pub each_at : {A : Type 0} (d : A) (n : ℕ) (g : ℕ → A → A) (xs : List A) → n ≤ length xs → (j : ℕ)
     → get_or (through n (λ i. put_at d i (g i)) xs) j d ≡ cond (ltb j n) (g j (get_or xs j d)) (get_or xs j d)
 each_at d n g xs m j =
-    at_entry d n (λ i. put_at d i (g i)) (λ i y. cond (eqb i j) (g i y) y) j (λ k ys. length_set ys k _) xs
+    at_entry d n (λ i. put_at d i (g i)) (λ i y. cond (eqb i j) (g i y) y) j (λ k ys. length-set ys k _) xs
     (λ k ys l e. put_at_lem d ys k j (g k) (omega arith))
     ∙ hit n j g (get_or xs j d)
 

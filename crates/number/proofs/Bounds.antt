@@ -1,5 +1,5 @@
 -- Arithmetic on f64s of a known size: what a product, a sum, a difference and a quotient can reach. A bound has to be a value of the format (`Exact`), since a result rounds up to it at most. Assumes nothing.
-use Rattle.std.proofs.Common.{◌≡◌, ℕ, zero, suc, ◌+◌, ◌-◌, ◌*◌, ◌/◌, ◌%◌, ◌^◌, ◌<◌, ◌≤◌, Bool, true, false, cond, not, ◌&&◌, ◌||◌, T, eqb, ltb, ◌⊎◌, ℤ, pos, negsuc, sym, refl, ap, ◌∙◌, subst, inl, inr, true≢false, zero-le, le_trans, le_of_eq, le_refl, lt_of_lt_of_le, le_of_lt, add-le-add, lt_irrefl, mul-le-mul_right, zero-lt-suc, mul_assoc, mul_comm, add-mul, mul-le-mul, mul-le-mul_left, mul-pos, one_mul, zero-mul, mul-one, mul_right_comm, not-le_of_lt, le_of_mul_le_mul_right, mul_left_comm, arith, lit<, eqb→eq, ltb→lt, nltb→le, pow_pos, pow_mono, pow-add, shl_lt}
+use Rattle.std.proofs.Common.{◌≡◌, ℕ, zero, suc, ◌+◌, ◌-◌, ◌*◌, ◌/◌, ◌%◌, ◌^◌, ◌<◌, ◌≤◌, Bool, true, false, cond, not, ◌&&◌, ◌||◌, T, eqb, ltb, ◌⊎◌, ℤ, pos, negsuc, sym, refl, ap, ◌∙◌, subst, inl, inr, true≢false, zero-le, le_trans, le_of_eq, le_refl, lt_of_lt_of_le, le_of_lt, add-le-add, lt_irrefl, mul-le-mul_right, zero-lt-suc, mul_assoc, mul_comm, add-mul, mul-le-mul, mul-le-mul_left, mul-pos, one-mul, zero-mul, mul-one, mul_right_comm, not-le_of_lt, le_of_mul-le-mul_right, mul_left_comm, arith, lit<, eqb→eq, ltb→lt, nltb→le, pow_pos, pow_mono, pow-add, shl_lt}
 use Prim.Native.Nat.{compare}
 use native.Mathlib.Nat.{mul-mul-mul_comm}
 use mathlib.Core.Bool.{beq}
@@ -110,7 +110,7 @@ le_of a b = go (ltb a b) (eqb a b) (ltb→lt a b) (eqb→eq a b)
 -- x / p ≤ y / r and y / r = n / c
 carry : (x p y r n c : ℕ) → 0 < r → x * r ≤ y * p → y * c ≡ n * r → x * c ≤ n * p
 carry x p y r n c R h e =
-    le_of_mul_le_mul_right
+    le_of_mul-le-mul_right
     (le_trans (le_of_eq (mul_right_comm x c r))
     (le_trans (mul-le-mul_right c h)
     (le_of_eq (mul_right_comm y p c ∙ ap (λ (z : ℕ). z * p) e ∙ mul_right_comm n r p)))) R
@@ -235,12 +235,12 @@ within_div {x} {y} {a} {q} {n} e h v w = within (div binary64 x y) n (div_at_mos
 over_value : (x y : Float) (q : ℕ) → 0 < q → HasValue x false 1 q → NotNegative y → T (finite y) → T (le x y) → AtLeast y q
 unfolding le
 over_value (fin false k g) (fin false m e) q Q v s f t =
-    subst (λ (z : ℕ). z ≤ m * up e * q) (one_mul (down e))
+    subst (λ (z : ℕ). z ≤ m * up e * q) (one-mul (down e))
     (carry_back 1 q (k * up g) (down g) (m * up e) (down e) (down_pos g) v.1 (le_of (k * up g * down e) (m * up e * down g) t))
   where
     carry_back : (n c y r z p : ℕ) → 0 < r → y * c ≡ n * r → y * p ≤ z * r → n * p ≤ z * c
     carry_back n c y r z p R e h =
-        le_of_mul_le_mul_right
+        le_of_mul-le-mul_right
         (le_trans (le_of_eq (mul_right_comm n p r ∙ ap (λ (w : ℕ). w * p) (sym e) ∙ mul_right_comm y c p))
         (le_trans (mul-le-mul_right c h) (le_of_eq (mul_right_comm z r c)))) R
 over_value (fin true k g) y q Q v s f t = absurd (true≢false v.0)
@@ -265,7 +265,7 @@ units_beyond s u k q = go (ltb (u * 2 ^ k) (2 ^ 2098))
 round_beyond : (s : Bool) (a c q : ℕ) → 0 < c → 0 < q → Exact 1 q → c ≤ a * q → T (finite (round binary64 s a c)) → AtLeast (round binary64 s a c) q
 round_beyond s a c q C Q x h =
     let base : T (finite (round binary64 false a c)) → AtLeast (round binary64 false a c) q
-    = λ f. over_value (round binary64 false 1 q) (round binary64 false a c) q Q x (round_positive a c) f (round_mono binary64 1 q a c Q C (subst (λ (z : ℕ). z ≤ a * q) (sym (one_mul c)) h)) in
+    = λ f. over_value (round binary64 false 1 q) (round binary64 false a c) q Q x (round_positive a c) f (round_mono binary64 1 q a c Q C (subst (λ (z : ℕ). z ≤ a * q) (sym (one-mul c)) h)) in
     rw (round_is binary64 s a c) (units_beyond s _ _ q (rw (round_is binary64 false a c) at base))
 
 mul_at_least : (x y : Float) (q r : ℕ) → 0 < q * r → Exact 1 (q * r) → T (finite (mul binary64 x y)) → AtLeast x q → AtLeast y r → AtLeast (mul binary64 x y) (q * r)
@@ -311,18 +311,18 @@ beyond_div {x} {y} {q} {b} {r} Q e f v w z = beyond (div binary64 x y) (q * b) (
 -- ---- between two numbers, and held there
 -- x / p ≤ y / r, and y / r ≤ a
 cap : (x p y r a : ℕ) → 0 < r → x * r ≤ y * p → y ≤ a * r → x ≤ a * p
-cap x p y r a R h l = le_of_mul_le_mul_right (le_trans h (le_trans (mul-le-mul_right p l) (le_of_eq (mul_right_comm a r p)))) R
+cap x p y r a R h l = le_of_mul-le-mul_right (le_trans h (le_trans (mul-le-mul_right p l) (le_of_eq (mul_right_comm a r p)))) R
 
 -- nothing at all
 null : (x p y r a : ℕ) → 0 < r → y * p + x * r ≤ 0 → x ≤ a * p
 null x p y r a R h =
     let z : x * r ≤ 0 = omega arith in
-    le_of_mul_le_mul_right (le_trans z zero-le) R
+    le_of_mul-le-mul_right (le_trans z zero-le) R
 
 null' : (x p y r a : ℕ) → 0 < r → x * r + y * p ≤ 0 → x ≤ a * p
 null' x p y r a R h =
     let z : x * r ≤ 0 = omega arith in
-    le_of_mul_le_mul_right (le_trans z zero-le) R
+    le_of_mul-le-mul_right (le_trans z zero-le) R
 
 between : (x lo hi : Float) (a b : ℕ) → AtMost lo a → AtMost hi a → AtMost x b → T (not (lt x lo)) → T (not (lt hi x)) → AtMost x a
 unfolding lt

@@ -1,5 +1,5 @@
 -- The range tests against `Within` and `Beyond`: `within` passes exactly where x is finite and at most the limit in size. Assumes nothing.
-use Rattle.std.proofs.Common.{◌≡◌, ℕ, zero, suc, ◌+◌, ◌*◌, ◌<◌, ◌≤◌, Bool, true, false, cond, not, ◌&&◌, ◌||◌, T, eqb, ltb, ◌⊎◌, sym, refl, ap, ◌∙◌, subst, inl, inr, true≢false, le_trans, le_of_eq, le_of_lt, mul-le-mul_right, mul_assoc, mul_comm, eq-or-lt_of_le, mul-le-mul_left, mul-pos, mul-one, mul_right_comm, le_of_mul_le_mul_right, mul_left_comm, arith, eqb→eq, ltb→lt, lt→ltb, nltb→le}
+use Rattle.std.proofs.Common.{◌≡◌, ℕ, zero, suc, ◌+◌, ◌*◌, ◌<◌, ◌≤◌, Bool, true, false, cond, not, ◌&&◌, ◌||◌, T, eqb, ltb, ◌⊎◌, sym, refl, ap, ◌∙◌, subst, inl, inr, true≢false, le_trans, le_of_eq, le_of_lt, mul-le-mul_right, mul_assoc, mul_comm, eq-or-lt_of_le, mul-le-mul_left, mul-pos, mul-one, mul_right_comm, le_of_mul-le-mul_right, mul_left_comm, arith, eqb→eq, ltb→lt, lt→ltb, nltb→le}
 use mathlib.Core.Bool.{beq}
 use lib.Ieee.{Float, nan, inf, fin, up, down, neg, lt, eq, le}
 use lib.Ieee.Positive.{positive}
@@ -45,7 +45,7 @@ apart a b = go (ltb 0 (a + b)) (λ n. n)
 -- x / p ≤ y / r, and y / r = n
 down_to : (x p y r n : ℕ) → 0 < r → y * 1 ≡ n * r → x * r ≤ y * p → x ≤ n * p
 down_to x p y r n R e h =
-    le_of_mul_le_mul_right (le_trans h (le_of_eq (ap (λ (z : ℕ). z * p) (sym (mul-one y) ∙ e) ∙ mul_right_comm n r p))) R
+    le_of_mul-le-mul_right (le_trans h (le_of_eq (ap (λ (z : ℕ). z * p) (sym (mul-one y) ∙ e) ∙ mul_right_comm n r p))) R
 
 up_to : (x p y r n : ℕ) → y * 1 ≡ n * r → x ≤ n * p → x * r ≤ y * p
 up_to x p y r n e h = le_trans (mul-le-mul_right r h) (le_of_eq (mul_right_comm n p r ∙ ap (λ (z : ℕ). z * p) (sym e ∙ mul-one y)))
@@ -104,7 +104,7 @@ beyond_of_le (fin false k g) (fin false m e) q p b f t =
     let h : k * up g * down e ≤ m * up e * down g = le_of (k * up g * down e) (m * up e * down g) (eqb (k * up g * down e) (m * up e * down g)) (eqb→eq (k * up g * down e) (m * up e * down g)) t in
     record {
       is_finite = tt;
-      size = le_of_mul_le_mul_right
+      size = le_of_mul-le-mul_right
           (le_trans (mul-le-mul_left (down e) b.size)
           (le_trans (le_of_eq (turn (down e) (k * up g) q)) (le_trans (mul-le-mul_right q h) (le_of_eq (mul_right_comm (m * up e) (down g) q))))) (down_pos g);
     }

@@ -1,5 +1,5 @@
 -- A number rounded to whole seconds. Twice a number is exact, and half of its whole part plus one is the number rounded. From 2 ^ 53 on a number has no fraction. Assumes nothing.
-use Rattle.std.proofs.Common.{◌≡◌, ℕ, zero, suc, ◌+◌, ◌-◌, ◌*◌, ◌/◌, ◌%◌, ◌^◌, ◌<◌, ◌≤◌, min, Bool, true, false, cond, not, ◌&&◌, T, eqb, ltb, leb, ℤ, pos, negsuc, sym, refl, ap, ◌∙◌, subst, true≢false, zero-le, le_trans, le_of_eq, le_refl, lt_of_lt_of_le, le_of_suc-le-suc, lt_of_le_of_lt, mul-le-mul_right, mul_assoc, mul_comm, div-lt_iff_lt-mul, add-mul, lt_of_mul-lt-mul_right, mul-lt-mul_of_pos_right, mul-pos, one_mul, lt_of_not-le, le-div_iff_mul-le, zero-mul, mul-one, mul_right_comm, not-le_of_lt, mul_left_comm, arith, lit<, lit≤, ltb→lt, lt→ltb, leb→le, nltb→le, pow_pos, pow_mono, pow-add}
+use Rattle.std.proofs.Common.{◌≡◌, ℕ, zero, suc, ◌+◌, ◌-◌, ◌*◌, ◌/◌, ◌%◌, ◌^◌, ◌<◌, ◌≤◌, min, Bool, true, false, cond, not, ◌&&◌, T, eqb, ltb, leb, ℤ, pos, negsuc, sym, refl, ap, ◌∙◌, subst, true≢false, zero-le, le_trans, le_of_eq, le_refl, lt_of_lt_of_le, le_of_suc-le-suc, lt_of_le_of_lt, mul-le-mul_right, mul_assoc, mul_comm, div-lt_iff_lt-mul, add-mul, lt_of_mul-lt-mul_right, mul-lt-mul_of_pos_right, mul-pos, one-mul, lt_of_not-le, le-div_iff_mul-le, zero-mul, mul-one, mul_right_comm, not-le_of_lt, mul_left_comm, arith, lit<, lit≤, ltb→lt, lt→ltb, leb→le, nltb→le, pow_pos, pow_mono, pow-add}
 use native.Mathlib.Nat.{add-mul-div_right, div-div-eq-div-mul}
 use lib.Pow.{pow-lt}
 use lib.Ieee.{Float, nan, inf, fin, binary64, up, down, round, sum, add, lt, fits, to_unsigned}
@@ -41,7 +41,7 @@ unfolding shift
 shifted (pos k) h = sym (mul-one (2 ^ (k + 1074)) ∙ pow-add 2 k 1074)
 shifted (negsuc k) h =
     let j : suc k ≤ 1074 = le_of_suc-le-suc (lt_of_not-le (λ (g : suc 1074 ≤ suc k). not-le_of_lt (pow-lt g) h)) in
-    one_mul (2 ^ 1074) ∙ ap (λ (n : ℕ). 2 ^ n) (sym (back k j)) ∙ pow-add 2 (1074 - suc k) (suc k)
+    one-mul (2 ^ 1074) ∙ ap (λ (n : ℕ). 2 ^ n) (sym (back k j)) ∙ pow-add 2 (1074 - suc k) (suc k)
 
 -- ---- twice a number is exact
 next_power : (j : ℕ) → 2 ^ (j + 1) ≡ 2 * 2 ^ j
@@ -81,7 +81,7 @@ module _ (m : ℕ) (e : ℤ) (t : T (fits binary64 (fin false (suc m) e))) (smal
 -- ---- half of twice the number's whole part plus one
 halves : (a d : ℕ) → 0 < d → (2 * a / d + 1) / 2 ≡ half_away a d
 halves a d h =
-    ap (λ (n : ℕ). n / 2) (sym (add-mul-div_right (2 * a) 1 h) ∙ ap (λ (n : ℕ). (2 * a + n) / d) (one_mul d))
+    ap (λ (n : ℕ). n / 2) (sym (add-mul-div_right (2 * a) 1 h) ∙ ap (λ (n : ℕ). (2 * a + n) / d) (one-mul d))
     ∙ div-div-eq-div-mul (2 * a + d) d 2
     ∙ ap (λ (n : ℕ). (2 * a + d) / n) (mul_comm d 2)
 
@@ -97,7 +97,7 @@ either_pos a b h = omega arith
 
 above : (y : Float) (n d : ℕ) → HasValue y false n d → T (lt (fin true 1 (pos 0)) y)
 unfolding lt
-above (fin false k g) n d v = lt→ltb 0 (1 * 1 * down g + k * up g * 1) (either_pos (1 * 1 * down g) (k * up g * 1) (subst (λ (x : ℕ). 0 < x) (sym (one_mul (down g))) (down_pos g)))
+above (fin false k g) n d v = lt→ltb 0 (1 * 1 * down g + k * up g * 1) (either_pos (1 * 1 * down g) (k * up g * 1) (subst (λ (x : ℕ). 0 < x) (sym (one-mul (down g))) (down_pos g)))
 above (fin true k g) n d v = absurd (true≢false v.0)
 above (inf s) n d v = absurd v
 above nan n d v = absurd v

@@ -7,8 +7,8 @@ use Prim.Native.Nat.{ℕ, ◌+◌, ◌*◌, ◌<◌, ◌≤◌}
 use native.Mathlib.Nat.{eq-or-lt_of_le, le_of_suc-le-suc, not-suc-le-zero, mul-lt-mul_of_pos_left}
 use native.Mathlib.Numerals.{add-one}
 use native.Mathlib.Omega.{arith}
-use lib.ListN.{length, get_or, set, length_set}
-use lib.Seq.{get_or-set_same, get_or_set_other}
+use lib.ListN.{length, get_or, set, length-set}
+use lib.Seq.{get_or-set_same, get_or-set_other}
 use Rattle.planes.specs.Planes.{turned}
 use Rattle.planes.specs.Passes.{RowPut, RowsPut}
 use Rattle.planes.proofs.Places.{same_place}
@@ -22,13 +22,13 @@ module _ {w n : ℕ} {from : List ℕ} where
   pub row_next : {row bytes : ℕ} {before after : List ℕ} → row < n → n * bytes + row < length before → RowPut w n from row bytes before after
       → RowPut w n from row (bytes + 1) before (set after (n * bytes + row) (get_or from (w * row + bytes) 0))
   row_next {row} {bytes} {before} {after} h room p = record {
-    size = simp length_set p.size;
+    size = simp length-set p.size;
     put = λ byte l.
         ⊎_elim
         (λ e. rw e (get_or-set_same after (n * bytes + row) (get_or from (w * row + bytes) 0) 0 (omega (arith, p.size))))
-        (λ l'. get_or_set_other after (n * bytes + row) (n * byte + row) _ 0 (λ e. omega (arith, mul-lt-mul_of_pos_left l' nonzero)) ∙ p.put byte l')
+        (λ l'. get_or-set_other after (n * bytes + row) (n * byte + row) _ 0 (λ e. omega (arith, mul-lt-mul_of_pos_left l' nonzero)) ∙ p.put byte l')
         (eq-or-lt_of_le (le_of_suc-le-suc (rw add-one at l)));
-    kept = λ byte r l. get_or_set_other after (n * bytes + row) (n * byte + r) _ 0 (λ e. omega (arith, same_place n byte r bytes row (omega arith) h e)) ∙ p.kept byte r l;
+    kept = λ byte r l. get_or-set_other after (n * bytes + row) (n * byte + r) _ 0 (λ e. omega (arith, same_place n byte r bytes row (omega arith) h e)) ∙ p.kept byte r l;
   }
     where
       nonzero : 0 < n

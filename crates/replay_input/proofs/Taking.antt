@@ -3,18 +3,18 @@ use Prim.Native.Nat.{ℕ, ◌*◌, ◌/◌, ◌≤◌, min}
 use mathlib.Core.Path.{◌≡◌, sym, ap, ◌∙◌}
 use mathlib.Core.List.{List, ◌++◌}
 use native.Mathlib.Omega.{arith}
-use lib.ListN.{length, take, drop, length_append, take-append-drop}
+use lib.ListN.{length, take, drop, length-append, take-append-drop}
 use Rattle.io.specs.Counts.{IsPrefixLen}
-use lib.Seq.{length_take_le}
+use lib.Seq.{length-take-le}
 use Rattle.words.specs.Words.{first_words}
 use Rattle.words.proofs.Filling.{length_first_words, filled_none, words_more}
 use Rattle.replay_input.specs.Input.{Taken}
 
 counts : (n : ℕ) (xs : List ℕ) → n ≤ length xs → IsPrefixLen n xs
-counts n xs h = (h, sym (length_take_le n xs h))
+counts n xs h = (h, sym (length-take-le n xs h))
 
 room : (n : ℕ) (ws before : List ℕ) → length ws ≡ n → n ≤ length before → n ≤ length (ws ++ drop n before)
-room n ws before e h = omega (arith, length_append ws (drop n before), e)
+room n ws before e h = omega (arith, length-append ws (drop n before), e)
 
 pub taken_from :
     (n : ℕ) (bytes before after : List ℕ) (r : ℕ) → n ≤ length bytes / 4
@@ -22,7 +22,7 @@ pub taken_from :
     → after ≡ first_words r (take (n * 4) bytes) ++ drop r before
     → Taken r bytes before after
 taken_from n bytes before after r h e q =
-    let s : length (take (n * 4) bytes) ≡ n * 4 = length_take_le (n * 4) bytes (omega arith) in
+    let s : length (take (n * 4) bytes) ≡ n * 4 = length-take-le (n * 4) bytes (omega arith) in
     let m : first_words r bytes ≡ first_words r (take (n * 4) bytes) =
     sym (ap (first_words r) (take-append-drop (n * 4) bytes)) ∙ words_more r (take (n * 4) bytes) (drop (n * 4) bytes) (omega (arith, s, e)) in
     record { count = counts r after (rw q (room r (first_words r (take (n * 4) bytes)) before (length_first_words r (take (n * 4) bytes)) (omega (arith, e)))); words = q ∙ ap (λ ws. ws ++ drop r before) (sym m) }

@@ -5,10 +5,10 @@ use mathlib.Core.Bool.{Bool, true, false, cond, ◌||◌}
 use mathlib.Core.List.{List, [], ◌∷◌, ◌++◌}
 use native.Mathlib.Numerals.{add-one}
 use native.Mathlib.Omega.{arith}
-use borrow.Author.Tests.{lt_ltb, le_ltb, ne_eqb}
+use borrow.Author.Tests.{lt-ltb, le-ltb, ne_eqb}
 use lib.Dec.{eqb}
 use lib.Ieee.{Float}
-use lib.ListN.{length, length_append}
+use lib.ListN.{length, length-append}
 use Rattle.listing.specs.Numbers.{decimal_text}
 use Rattle.listing.specs.Text.{pasted, put, after}
 use Rattle.listing.proofs.Digits.{digits_count}
@@ -34,7 +34,7 @@ module _ (buf : List ℕ) (at : ℕ) where
       → (j ≡ i + length b) × (now ≡ pasted mid i b) → (j ≡ at + length (a ++ b)) × (now ≡ pasted buf at (a ++ b))
   both a b {mid} {now} {i} {j} h p q =
       let room : at + length a ≤ length buf = omega arith in
-      (omega (arith, p.0, q.0, length_append a b), q.1 ∙ rw (p.1, p.0) (pasted_more buf at a room b))
+      (omega (arith, p.0, q.0, length-append a b), q.1 ∙ rw (p.1, p.0) (pasted_more buf at a room b))
 
   -- the same where the second is put by a call that asks for room
   pub both_put : (a b : List ℕ) {mid now : List ℕ} {i j : ℕ} → at + (length a + length b) ≤ length buf → (i ≡ at + length a) × (mid ≡ pasted buf at a)
@@ -60,7 +60,7 @@ unfolding number_text
 number_length x = word_length _
 
 three : (a b c : List ℕ) → length a ≡ 17 → length b ≡ 17 → length c ≡ 17 → length ((a ++ b) ++ c) ≡ 51
-three a b c p q r = omega (arith, p, q, r, length_append (a ++ b) c, length_append a b)
+three a b c p q r = omega (arith, p, q, r, length-append (a ++ b) c, length-append a b)
 
 pub node_length : (x : NodeState) → length (node_text x) ≡ 51
 unfolding node_text
@@ -75,12 +75,12 @@ link_length x =
 pub nodes_length : (n : ℕ) (s : State) → length (nodes_text n s) ≡ n * 51
 unfolding nodes_text
 nodes_length zero s = refl
-nodes_length (suc n) s = omega (arith, nodes_length n s, node_length (node_state_at s n), length_append (nodes_text n s) (node_text (node_state_at s n)))
+nodes_length (suc n) s = omega (arith, nodes_length n s, node_length (node_state_at s n), length-append (nodes_text n s) (node_text (node_state_at s n)))
 
 pub links_length : (n : ℕ) (s : State) → length (links_text n s) ≡ n * 51
 unfolding links_text
 links_length zero s = refl
-links_length (suc n) s = omega (arith, links_length n s, link_length (link_state_at s n), length_append (links_text n s) (link_text (link_state_at s n)))
+links_length (suc n) s = omega (arith, links_length n s, link_length (link_state_at s n), length-append (links_text n s) (link_text (link_state_at s n)))
 
 -- one node and one link more
 pub nodes_more : (n : ℕ) (s : State) → nodes_text n s ++ node_text (node_state_at s n) ≡ nodes_text (n + 1) s
@@ -177,14 +177,14 @@ module _ (code seconds : ℕ) (truth : Bool) where
 
 pub refused_short : (number : ℕ) → length (refused_text number) ≤ 18
 unfolding refused_text
-refused_short number = omega (arith, (digits_count 9 number).1, length_append (114 ∷ 101 ∷ 102 ∷ 117 ∷ 115 ∷ 101 ∷ 100 ∷ 61 ∷ []) (decimal_text number))
+refused_short number = omega (arith, (digits_count 9 number).1, length-append (114 ∷ 101 ∷ 102 ∷ 117 ∷ 115 ∷ 101 ∷ 100 ∷ 61 ∷ []) (decimal_text number))
 
 pub answer_short : (code number seconds : ℕ) (truth : Bool) → length (answer_text code number seconds truth) ≤ 27
 unfolding answer_text
 answer_short code number seconds truth =
     let given : length (given_text code seconds truth) ≤ 18 = omega (arith, given_short code seconds truth) in
     let rest : length (cond (eqb number 0) (given_text code seconds truth) (refused_text number)) ≤ 18 = either_short 18 (eqb number 0) _ _ given (refused_short number) in
-    omega (arith, rest, name_short code, length_append (name_text code) (cond (eqb number 0) (given_text code seconds truth) (refused_text number)))
+    omega (arith, rest, name_short code, length-append (name_text code) (cond (eqb number 0) (given_text code seconds truth) (refused_text number)))
 
 -- ---- a state, and a line
 pub state_short : (c : Counts) (s : State) → length (state_text c s) ≤ 32675
@@ -194,7 +194,7 @@ state_short c s =
     let b = word_text s.clock.count in
     let x = nodes_text (min c.nodes 256) s in
     let y = links_text (min c.links 384) s in
-    omega (arith, word_length s.clock.instant, word_length s.clock.count, length_append a b, length_append (a ++ b) x, length_append ((a ++ b) ++ x) y, length_append (((a ++ b) ++ x) ++ y) (10 ∷ []), nodes_length (min c.nodes 256) s, links_length (min c.links 384) s)
+    omega (arith, word_length s.clock.instant, word_length s.clock.count, length-append a b, length-append (a ++ b) x, length-append ((a ++ b) ++ x) y, length-append (((a ++ b) ++ x) ++ y) (10 ∷ []), nodes_length (min c.nodes 256) s, links_length (min c.links 384) s)
 
 module _ (buf : List ℕ) (at : ℕ) (c : Counts) (s : State) {nodes links : ℕ} (few : nodes ≡ min c.nodes 256) (few_links : links ≡ min c.links 384) (room : at + 32675 ≤ length buf) where
   abbrev instant_text : List ℕ
@@ -217,9 +217,9 @@ module _ (buf : List ℕ) (at : ℕ) (c : Counts) (s : State) {nodes links : ℕ
       let b = count_text in
       let x = nodes_text nodes s in
       let y = links_text links s in
-      let ab = length_append a b in
-      let abx = length_append (a ++ b) x in
-      let abxy = length_append ((a ++ b) ++ x) y in
+      let ab = length-append a b in
+      let abx = length-append (a ++ b) x in
+      let abxy = length-append ((a ++ b) ++ x) y in
       let u = word_length s.clock.instant in
       let v = word_length s.clock.count in
       let w = nodes_length nodes s in
@@ -232,7 +232,7 @@ module _ (buf : List ℕ) (at : ℕ) (c : Counts) (s : State) {nodes links : ℕ
 -- a line in a buffer with room for the longest, and in a smaller one
 module _ (buf line : List ℕ) where
   pub line_put : {now : List ℕ} {r : ℕ} → 32702 ≤ length buf → (r ≡ 0 + length line) × (now ≡ pasted buf 0 line) → (r ≡ size buf line) × (now ≡ written buf line)
-  line_put h p = let t = le_ltb (length buf) 32702 h in (rw t (omega (arith, p.0)), rw t p.1)
+  line_put h p = let t = le-ltb (length buf) 32702 h in (rw t (omega (arith, p.0)), rw t p.1)
 
   pub line_none : length buf < 32702 → (0 ≡ size buf line) × (buf ≡ written buf line)
-  line_none h = let t = lt_ltb (length buf) 32702 h in (rw t, rw t)
+  line_none h = let t = lt-ltb (length buf) 32702 h in (rw t, rw t)

@@ -7,9 +7,7 @@ use Rattle.number.specs.Order.{abs}
 use Rattle.number.specs.Seconds.{u64_to_f64}
 use Rattle.number.specs.declared.compare.ComparisonOperator.{ComparisonOperator}
 use Rattle.number.specs.declared.compare.ComparisonOperator.TheVariants.{Eq, Ne, Gt, Lt, Ge, Le}
-use Rattle.tank.specs.Reach.{seconds_of}
 use Rattle.tank.specs.Tanks.{time_to_reach_level}
-use Rattle.tank.specs.declared.reach.Reach.{Reach}
 use Rattle.tank.specs.declared.tank.Tank as tanks
 use Rattle.tank.specs.declared.units.Feet.{Feet}
 use Rattle.model.specs.Nodes.{elevation}
@@ -61,12 +59,10 @@ node_value nodes.TheVariants.Demand n s = s.demand
 node_value nodes.TheVariants.Head n s = s.head
 node_value nodes.TheVariants.Pressure n s = (s.head ⊖ elevation n) · psi_per_ft
 
--- "Fill and drain times are in hours; MAX turns into 2^64 before the division." Document 02, R-5: "MAX as hours stays 2^64 / 3,600"
-abbrev pub hours_of : Reach → Float
-hours_of reach = u64_to_f64 (seconds_of reach) ÷ decimal 3600 0
-
+-- "Fill and drain times are in hours; MAX turns into 2^64 before the division."
 abbrev pub hours_to : tanks.Tank → NodeState → Feet → Float
-hours_to t s target = hours_of (time_to_reach_level t (record { 0 = s.head ⊖ t.elevation.0 }) target (record { 0 = s.demand }))
+hours_to t s target =
+    u64_to_f64 (time_to_reach_level t (record { 0 = s.head ⊖ t.elevation.0 }) target (record { 0 = s.demand })) ÷ decimal 3600 0
 
 abbrev pub tank_value : tank_attributes.TankAttribute → tanks.Tank → NodeState → Float
 tank_value tank_attributes.TheVariants.Level t s = s.head ⊖ t.elevation.0

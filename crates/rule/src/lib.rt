@@ -1,11 +1,11 @@
 // Premise truth: `RuleCondition::is_active` of rule.rs, for one premise with the node or the link that it looks at.
 ghost use Rattle.std.specs.Prelude.{◌≡◌};
-ghost use Rattle.rule.specs.Premises.{number_truth, time_truth, compare_status, status_truth, node_value, hours_of, tank_value, tank_truth, link_truth, system_value, premise_truth};
+ghost use Rattle.rule.specs.Premises.{number_truth, time_truth, compare_status, status_truth, node_value, tank_value, tank_truth, link_truth, system_value, premise_truth};
 
 use model::*;
 use number::constants::PSI_PER_FT;
 use number::{ComparisonOperator, abs, u64_to_f64};
-use tank::{CubicFeetPerSecond, Feet, Reach, Tank, seconds_of};
+use tank::{CubicFeetPerSecond, Feet, Tank};
 
 // What a premise may ask of the whole system: the demand of all nodes, the instant and the clock time.
 #[derive(Drop)]
@@ -73,13 +73,6 @@ fn node_value(a: NodeAttribute, n: Node, s: NodeState) -> f64
     }
 }
 
-// A time to a level in hours; one that is never reached is 2^64 seconds away.
-fn hours_of(reach: Reach) -> f64
-    ensures { result ≡ hours_of reach }
-{
-    u64_to_f64(seconds_of(reach)) / 3600.0
-}
-
 // A tank's level in feet, or its time to fill or to drain in hours.
 fn tank_value(a: TankAttribute, t: Tank, s: NodeState) -> f64
     ensures { result ≡ tank_value a t s }
@@ -90,8 +83,12 @@ fn tank_value(a: TankAttribute, t: Tank, s: NodeState) -> f64
     let least = t.min_level;
     match a {
         TankAttribute::Level => level,
-        TankAttribute::FillTime => hours_of(t.time_to_reach_level(Feet(level), greatest, flow)),
-        TankAttribute::DrainTime => hours_of(t.time_to_reach_level(Feet(level), least, flow)),
+        TankAttribute::FillTime => {
+            u64_to_f64(t.time_to_reach_level(Feet(level), greatest, flow)) / 3600.0
+        }
+        TankAttribute::DrainTime => {
+            u64_to_f64(t.time_to_reach_level(Feet(level), least, flow)) / 3600.0
+        }
     }
 }
 

@@ -6,7 +6,6 @@ use Rattle.number.specs.Operators.{◌⊖◌}
 use Rattle.clock.specs.Steps.{time_candidate, clock_candidate, smaller_positive}
 use Rattle.model.specs.Loops.{through}
 use Rattle.run_tables.specs.Rows.{tank_at}
-use Rattle.tank.specs.Reach.{seconds_of}
 use Rattle.tank.specs.Tanks.{time_to_reach_level}
 
 -- times
@@ -27,7 +26,7 @@ next_clock seconds n clock from = through n (clock_turn seconds clock) from
 abbrev pub wait_for : List Float → List ℕ → List Float → List Float → ℕ → ℕ → Float → ℕ
 wait_for numbers overflows heads demands k j target =
     let t = tank_at numbers overflows k in
-    seconds_of (time_to_reach_level t (record { 0 = get_or heads j nan ⊖ t.elevation.0 }) (record { 0 = target }) (record { 0 = get_or demands j nan }))
+    time_to_reach_level t (record { 0 = get_or heads j nan ⊖ t.elevation.0 }) (record { 0 = target }) (record { 0 = get_or demands j nan })
 
 abbrev pub level_turn : List ℕ → List Float → List ℕ → List Float → List ℕ → List Float → List Float → ℕ → ℕ → ℕ
 level_turn tanks targets nodes numbers overflows heads demands i smallest =

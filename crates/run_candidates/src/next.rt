@@ -5,7 +5,7 @@ ghost use Rattle.run_candidates.specs.Next.{next_time, next_clock, next_level};
 
 use clock::{clock_candidate, smaller_positive, time_candidate};
 use run_tables::tank_at;
-use tank::{CubicFeetPerSecond, Feet, seconds_of};
+use tank::{CubicFeetPerSecond, Feet};
 
 // Time controls.
 pub fn next_time(seconds: &[u32; 64], n: usize, time: u32, from: u64) -> u64
@@ -61,8 +61,8 @@ pub fn next_level<'a>(
         let target = targets[i];
         let demand = demands[j];
         let level = Feet(head - t.elevation.0);
-        let reach = t.time_to_reach_level(level, Feet(target), CubicFeetPerSecond(demand));
-        smallest = smaller_positive(seconds_of(reach), smallest);
+        let candidate = t.time_to_reach_level(level, Feet(target), CubicFeetPerSecond(demand));
+        smallest = smaller_positive(candidate, smallest);
         i += 1;
     }
     smallest

@@ -6,8 +6,8 @@ use mathlib.Core.Logic.{◌⊎◌, inl, inr, ⊎_elim}
 use native.Mathlib.Nat.{eq-or-lt_of_le}
 use native.Mathlib.Numerals.{add-one}
 use native.Mathlib.Omega.{arith}
-use lib.ListN.{get_or, set, length, length_set, length_append, get_or_append}
-use lib.Seq.{get_or-set_same, get_or_set_other, get_or-append_seam}
+use lib.ListN.{get_or, set, length, length-set, length-append, get_or-append}
+use lib.Seq.{get_or-set_same, get_or-set_other, get_or-append_seam}
 use Rattle.clock.specs.Triggers.{Trigger, at_time, at_clock, at_level, untimed}
 use Rattle.control.specs.Controls.{Level, trigger_of}
 use Rattle.control.specs.Named.{condition_seconds}
@@ -30,16 +30,16 @@ more {array} {xs} ys {count} {next} {x} h room w e =
     stay : next ≡ count + 0 → Laid (set array count x) next xs
     stay n = record {
       count = omega (arith, h.count);
-      each = λ k l. get_or_set_other array count k x 0 (λ s. omega arith) ∙ h.each k (omega arith);
+      each = λ k l. get_or-set_other array count k x 0 (λ s. omega arith) ∙ h.each k (omega arith);
     }
 
     put : next ≡ count + 1 → Laid (set array count x) next (xs ++ (x ∷ []))
     put n = record {
-      count = omega (arith, h.count, length_append xs (x ∷ []));
+      count = omega (arith, h.count, length-append xs (x ∷ []));
       each = λ k l.
           ⊎_elim
           (λ s. rw s (get_or-set_same array count x 0 room ∙ sym (ap (λ (m : ℕ). get_or (xs ++ (x ∷ [])) m 0) h.count ∙ get_or-append_seam xs x [] 0)))
-          (λ s. get_or_set_other array count k x 0 (λ r. omega arith) ∙ h.each k s ∙ sym (get_or_append xs (x ∷ []) 0 k (omega (arith, h.count))))
+          (λ s. get_or-set_other array count k x 0 (λ r. omega arith) ∙ h.each k s ∙ sym (get_or-append xs (x ∷ []) 0 k (omega (arith, h.count))))
           (eq-or-lt_of_le (omega arith));
     }
 
@@ -136,7 +136,7 @@ module _ {in_list : List (Trigger Level) → List ℕ} {of : ControlCondition �
   unfolding listed
   list_put {i} {array} {count} {next} {x} h m l a e = record {
     most = omega arith;
-    long = length_set array count x ∙ h.long;
+    long = length-set array count x ∙ h.long;
     few = ⊎_elim (λ q. omega (arith, e, ap length q, h.few)) (λ q. omega (arith, e, ap length q, h.few)) (kind.one (condition_in controls i));
     laid =
         rw (add-one i, kind.last (triggers_in controls i) (trigger_in controls i), kind.alone (condition_in controls i), a)
@@ -153,7 +153,7 @@ unfolding listed
 kind_few kind controls zero = omega (arith, ap length kind.none)
 kind_few {in_list} {of} kind controls (suc n) =
     let r : length (in_list (triggers_in controls n)) ≤ n = kind_few kind controls n in
-    let a = length_append (in_list (triggers_in controls n)) (of (condition_in controls n)) in
+    let a = length-append (in_list (triggers_in controls n)) (of (condition_in controls n)) in
     rw (kind.last (triggers_in controls n) (trigger_in controls n), kind.alone (condition_in controls n))
     (⊎_elim (λ q. omega (arith, r, a, ap length q)) (λ q. omega (arith, r, a, ap length q)) (kind.one (condition_in controls n)))
 

@@ -7,11 +7,11 @@ use mathlib.Core.Logic.{◌⊎◌, inl, inr, ⊎_elim}
 use native.Mathlib.Nat.{le_of_suc-le-suc, eq-or-lt_of_le}
 use native.Mathlib.Numerals.{add-one}
 use native.Mathlib.Omega.{arith}
-use borrow.Author.Tests.{ltb-true, lt_ltb, le_ltb, eq-eqb}
+use borrow.Author.Tests.{ltb-true, lt-ltb, le-ltb, eq-eqb}
 use lib.Dec.{eqb, ltb}
 use lib.Ieee.{Float, nan}
-use lib.ListN.{get_or, set, length, length_set, length_append, get_or_append}
-use lib.Seq.{get_or-set_same, get_or_set_other, get_or-append_seam}
+use lib.ListN.{get_or, set, length, length-set, length-append, get_or-append}
+use lib.Seq.{get_or-set_same, get_or-set_other, get_or-append_seam}
 use Rattle.clock.specs.Triggers.{Trigger, at_time, at_clock, at_level, untimed}
 use Rattle.control.specs.Controls.{Level, watched, trigger_of}
 use Rattle.control.specs.Named.{condition_target}
@@ -83,10 +83,10 @@ more {nodes} {m} {xs} ys {tanks} {targets} {count} {next} {k} {w} {x} h a b c e 
     v = record { tank = w; target = x }
 
     tank_old : (i : ℕ) → i < count → get_or (set tanks count k) i 0 ≡ get_or tanks i 0
-    tank_old i l = get_or_set_other tanks count i k 0 (λ s. omega arith)
+    tank_old i l = get_or-set_other tanks count i k 0 (λ s. omega arith)
 
     target_old : (i : ℕ) → i < count → get_or (set targets count x) i nan ≡ get_or targets i nan
-    target_old i l = get_or_set_other targets count i x nan (λ s. omega arith)
+    target_old i l = get_or-set_other targets count i x nan (λ s. omega arith)
 
     stay : next ≡ count + 0 → LevelsHeld xs nodes m (set tanks count k) (set targets count x) next
     stay n = record {
@@ -97,7 +97,7 @@ more {nodes} {m} {xs} ys {tanks} {targets} {count} {next} {k} {w} {x} h a b c e 
     }
 
     old : (i : ℕ) → i < count → get_or (xs ++ (v ∷ [])) i no_level ≡ get_or xs i no_level
-    old i l = get_or_append xs (v ∷ []) no_level i (omega (arith, h.many))
+    old i l = get_or-append xs (v ∷ []) no_level i (omega (arith, h.many))
 
     last : get_or (xs ++ (v ∷ [])) count no_level ≡ v
     last = ap (λ (j : ℕ). get_or (xs ++ (v ∷ [])) j no_level) h.many ∙ get_or-append_seam xs v [] no_level
@@ -107,7 +107,7 @@ more {nodes} {m} {xs} ys {tanks} {targets} {count} {next} {k} {w} {x} h a b c e 
 
     put : k < m → get_or nodes k 0 ≡ w → next ≡ count + 1 → LevelsHeld (xs ++ (v ∷ [])) nodes m (set tanks count k) (set targets count x) next
     put r s n = record {
-      many = omega (arith, h.many, length_append xs (v ∷ []));
+      many = omega (arith, h.many, length-append xs (v ∷ []));
       low = λ i l.
           ⊎_elim
           (λ q. subst (λ (j : ℕ). j < m) (sym (ap (λ (j : ℕ). get_or (set tanks count k) j 0) q ∙ new)) r)
@@ -153,8 +153,8 @@ module _ {controls : List Control} {n : ℕ} {nodes : List ℕ} {among : ℕ} wh
   unfolding listed
   list_put {i} {tanks} {targets} {count} {next} {k} {x} h m l num t e = record {
     most = omega arith;
-    long = length_set tanks count k ∙ h.long;
-    wide = length_set targets count x ∙ h.wide;
+    long = length-set tanks count k ∙ h.long;
+    wide = length-set targets count x ∙ h.wide;
     few = omega (arith, e, levels_few (ltb k among) (condition_in controls i), h.few);
     held =
         rw (add-one i, levels_last (λ v. stands_at nodes among v.tank) (triggers_in controls i) (trigger_in controls i), levels_alone nodes among (condition_in controls i), num.stands, t)
@@ -177,7 +177,7 @@ levels_most controls nodes among (suc n) =
     (omega (
       arith,
       r,
-      length_append (levels_of controls n nodes among) (levels_at (stands_at nodes among (watched (condition_in controls n))) (condition_in controls n)),
+      length-append (levels_of controls n nodes among) (levels_at (stands_at nodes among (watched (condition_in controls n))) (condition_in controls n)),
       levels_few (stands_at nodes among (watched (condition_in controls n))) (condition_in controls n),
     ))
 
@@ -195,13 +195,13 @@ pub numbered_found : {nodes : List ℕ} {n node k : ℕ} → k < n → get_or no
 unfolding stands_at
 numbered_found {nodes} {n} {node} {k} l e = record {
   most = omega arith;
-  stands = rw (held_failed n (λ j. not (eqb (get_or nodes j 0) node)) k l (rw (eq-eqb (get_or nodes k 0) node e)), lt_ltb k n l);
+  stands = rw (held_failed n (λ j. not (eqb (get_or nodes j 0) node)) k l (rw (eq-eqb (get_or nodes k 0) node e)), lt-ltb k n l);
   found = λ m. e;
 }
 
 pub numbered_none : {nodes : List ℕ} {n node i : ℕ} → Held n (λ j. not (eqb (get_or nodes j 0) node)) i → n ≤ i → Numbered nodes n node n
 unfolding stands_at
-numbered_none {n = n} h l = record { most = omega arith; stands = rw (held_ended h l refl, le_ltb n n (omega arith)); found = λ m. absurd (omega arith) }
+numbered_none {n = n} h l = record { most = omega arith; stands = rw (held_ended h l refl, le-ltb n n (omega arith)); found = λ m. absurd (omega arith) }
 
 -- ---- every tank is in its table
 -- a place of x in a list
@@ -219,10 +219,10 @@ chosen_has test (suc n) i l e = by (test n) refl (λ m. chosen_has test n i m e)
     C = chosen test n
 
     on : Place C i → Place (C ++ (n ∷ [])) i
-    on q = record { at = q.at; low = omega (arith, q.low, length_append C (n ∷ [])); is = get_or_append C (n ∷ []) 0 q.at q.low ∙ q.is }
+    on q = record { at = q.at; low = omega (arith, q.low, length-append C (n ∷ [])); is = get_or-append C (n ∷ []) 0 q.at q.low ∙ q.is }
 
     by : (b : Bool) → test n ≡ b → (i < n → Place C i) → (i ≡ n) ⊎ (i < n) → Place (cond b (C ++ (n ∷ [])) C) i
-    by true t r w = ⊎_elim (λ q. record { at = length C; low = omega (arith, length_append C (n ∷ [])); is = get_or-append_seam C n [] 0 ∙ sym q }) (λ m. on (r m)) w
+    by true t r w = ⊎_elim (λ q. record { at = length C; low = omega (arith, length-append C (n ∷ [])); is = get_or-append_seam C n [] 0 ∙ sym q }) (λ m. on (r m)) w
     by false t r w = ⊎_elim (λ q. absurd (true≢false (sym e ∙ ap test q ∙ t))) r w
 
 -- where no tank stands, the node is none
@@ -235,4 +235,4 @@ none_stands {table} {among} {nodes} {numbers} {overflows} {n} laid j l e = by (t
     by true t =
         let q : Place (tank_nodes_in table among) j = chosen_has (tank_in table) among j l t in
         let m : q.at < n = omega (arith, laid.count, q.low) in
-        sym ((numbered_found m (laid.node q.at m ∙ q.is)).stands ∙ lt_ltb q.at n m) ∙ e
+        sym ((numbered_found m (laid.node q.at m ∙ q.is)).stands ∙ lt-ltb q.at n m) ∙ e

@@ -5,8 +5,8 @@ use mathlib.Core.List.{List, map}
 use mathlib.Core.Logic.{⊎_elim}
 use native.Mathlib.Nat.{eq-or-lt_of_le}
 use native.Mathlib.Omega.{arith}
-use lib.ListN.{get_or, set, length, length-map, length_set, get_or-map}
-use lib.Seq.{get_or-set_same, get_or_set_other, ext_get_or}
+use lib.ListN.{get_or, set, length, length-map, length-set, get_or-map}
+use lib.Seq.{get_or-set_same, get_or-set_other, ext_get_or}
 
 -- the first i of n entries are what g gives
 pub record Filled {A : Type 0} (d : A) (n : ℕ) (g : ℕ → A) (i : ℕ) (out : List A) : Type 0 where
@@ -21,10 +21,10 @@ module _ {A : Type 0} {d : A} {n : ℕ} {g : ℕ → A} where
   pub fill : {i : ℕ} {out : List A} {x : A} → Filled d n g i out → i < n → x ≡ g i → Filled d n g (i + 1) (set out i x)
   fill {i} {out} {x} f l e = record {
     most = omega arith;
-    long = length_set out i x ∙ f.long;
+    long = length-set out i x ∙ f.long;
     each = λ k h.
         ⊎_elim (λ q. rw q (get_or-set_same out i x d (omega (arith, f.long)) ∙ e))
-        (λ m. get_or_set_other out i k x d (λ q. omega arith) ∙ f.each k m)
+        (λ m. get_or-set_other out i k x d (λ q. omega arith) ∙ f.each k m)
         (eq-or-lt_of_le (omega arith));
   }
 

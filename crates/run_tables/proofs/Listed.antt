@@ -6,7 +6,7 @@ use mathlib.Core.List.{List, [], ◌∷◌, ◌++◌}
 use mathlib.Core.Logic.{⊎_elim}
 use native.Mathlib.Nat.{le_of_suc-le-suc, not-suc-le-zero, eq-or-lt_of_le}
 use native.Mathlib.Omega.{arith}
-use lib.ListN.{get_or, length, length_append, get_or_append}
+use lib.ListN.{get_or, length, length-append, get_or-append}
 use lib.Seq.{get_or-append_seam}
 use Rattle.run_tables.specs.Chosen.{chosen}
 
@@ -30,8 +30,8 @@ chosen_at test (suc n) k h = by (λ m. chosen_at test n m) (test n) refl h
     by rec true e l =
         ⊎_elim
         (λ q. subst (Chosen test (suc n)) (sym (ap (λ (m : ℕ). get_or (C ++ (n ∷ [])) m 0) q ∙ get_or-append_seam C n [] 0)) (record { low = omega arith; holds = e }))
-        (λ m. subst (Chosen test (suc n)) (sym (get_or_append C (n ∷ []) 0 k m)) (up (get_or C k 0) (rec k m)))
-        (eq-or-lt_of_le (le_of_suc-le-suc (omega (arith, l, length_append C (n ∷ [])))))
+        (λ m. subst (Chosen test (suc n)) (sym (get_or-append C (n ∷ []) 0 k m)) (up (get_or C k 0) (rec k m)))
+        (eq-or-lt_of_le (le_of_suc-le-suc (omega (arith, l, length-append C (n ∷ [])))))
     by rec false e l = up (get_or C k 0) (rec k l)
 
 -- rising
@@ -47,16 +47,16 @@ chosen_rising test (suc n) k m h l = by (chosen_rising test n k m h) (test n) re
     by rec true e l =
         ⊎_elim
         (λ q.
-        let a : get_or (C ++ (n ∷ [])) k 0 ≡ get_or C k 0 = get_or_append C (n ∷ []) 0 k (omega arith) in
+        let a : get_or (C ++ (n ∷ [])) k 0 ≡ get_or C k 0 = get_or-append C (n ∷ []) 0 k (omega arith) in
         let b : get_or (C ++ (n ∷ [])) m 0 ≡ n = ap (λ (j : ℕ). get_or (C ++ (n ∷ [])) j 0) q ∙ get_or-append_seam C n [] 0 in
         let c : get_or C k 0 < n = (chosen_at test n k (omega arith)).low in
         omega arith)
         (λ s.
-        let a : get_or (C ++ (n ∷ [])) k 0 ≡ get_or C k 0 = get_or_append C (n ∷ []) 0 k (omega arith) in
-        let b : get_or (C ++ (n ∷ [])) m 0 ≡ get_or C m 0 = get_or_append C (n ∷ []) 0 m s in
+        let a : get_or (C ++ (n ∷ [])) k 0 ≡ get_or C k 0 = get_or-append C (n ∷ []) 0 k (omega arith) in
+        let b : get_or (C ++ (n ∷ [])) m 0 ≡ get_or C m 0 = get_or-append C (n ∷ []) 0 m s in
         let c : get_or C k 0 < get_or C m 0 = rec s in
         omega arith)
-        (eq-or-lt_of_le (le_of_suc-le-suc (omega (arith, l, length_append C (n ∷ [])))))
+        (eq-or-lt_of_le (le_of_suc-le-suc (omega (arith, l, length-append C (n ∷ [])))))
     by rec false e l = rec l
 
 pub chosen_few : (test : ℕ → Bool) (n : ℕ) → length (chosen test n) ≤ n
@@ -65,7 +65,7 @@ chosen_few test zero = omega arith
 chosen_few test (suc n) = by (test n) (chosen_few test n)
   where
     by : (b : Bool) → length (chosen test n) ≤ n → length (cond b (chosen test n ++ (n ∷ [])) (chosen test n)) ≤ suc n
-    by true r = omega (arith, r, length_append (chosen test n) (n ∷ []))
+    by true r = omega (arith, r, length-append (chosen test n) (n ∷ []))
     by false r = omega (arith, r)
 
 -- two tests that never hold together: together they choose as many as each by itself
@@ -87,6 +87,6 @@ chosen_both a b (suc n) h = by (a n) (b n) refl refl (chosen_both a b n (λ i l.
     by : (x y : Bool) → a n ≡ x → b n ≡ y → length AB ≡ length A + length B
         → length (cond (x || y) (AB ++ (n ∷ [])) AB) ≡ length (cond x (A ++ (n ∷ [])) A) + length (cond y (B ++ (n ∷ [])) B)
     by true true e f r = absurd (h n (omega arith) e f)
-    by true false e f r = omega (arith, r, length_append AB (n ∷ []), length_append A (n ∷ []))
-    by false true e f r = omega (arith, r, length_append AB (n ∷ []), length_append B (n ∷ []))
+    by true false e f r = omega (arith, r, length-append AB (n ∷ []), length-append A (n ∷ []))
+    by false true e f r = omega (arith, r, length-append AB (n ∷ []), length-append B (n ∷ []))
     by false false e f r = r

@@ -7,8 +7,8 @@ use mathlib.Core.Logic.{⊎_elim}
 use native.Mathlib.Nat.{eq-or-lt_of_le}
 use native.Mathlib.Numerals.{add-one}
 use native.Mathlib.Omega.{arith}
-use lib.ListN.{get_or, set, length, length_append, get_or_append}
-use lib.Seq.{get_or-set_same, get_or_set_other, get_or-append_seam}
+use lib.ListN.{get_or, set, length, length-append, get_or-append}
+use lib.Seq.{get_or-set_same, get_or-set_other, get_or-append_seam}
 use Rattle.run_tables.specs.Chosen.{chosen}
 use Rattle.run_tables.specs.Held.{Pushed}
 
@@ -26,16 +26,16 @@ push {test} {i} {array} {count} {next} h room e = rw (add-one i) (by (test i) re
     C = chosen test i
 
     before : (k : ℕ) → k < count → get_or (set array count i) k 0 ≡ get_or C k 0
-    before k l = get_or_set_other array count k i 0 (λ q. omega arith) ∙ h.each k l
+    before k l = get_or-set_other array count k i 0 (λ q. omega arith) ∙ h.each k l
 
     last : (k : ℕ) → k ≡ count → get_or (set array count i) k 0 ≡ get_or (C ++ (i ∷ [])) k 0
     last k q = rw q (get_or-set_same array count i 0 room ∙ sym (ap (λ (m : ℕ). get_or (C ++ (i ∷ [])) m 0) h.many ∙ get_or-append_seam C i [] 0))
 
     by : (b : Bool) → test i ≡ b → next ≡ count + cond b 1 0 → Pushed test (suc i) (set array count i) next
     by true t n = record {
-      many = rw t (n ∙ omega (arith, h.many, length_append C (i ∷ [])));
+      many = rw t (n ∙ omega (arith, h.many, length-append C (i ∷ [])));
       few = omega (arith, h.few);
-      each = λ k l. rw t (⊎_elim (λ q. last k q) (λ m. before k m ∙ sym (get_or_append C (i ∷ []) 0 k (omega (arith, h.many)))) (eq-or-lt_of_le (omega arith)));
+      each = λ k l. rw t (⊎_elim (λ q. last k q) (λ m. before k m ∙ sym (get_or-append C (i ∷ []) 0 k (omega (arith, h.many)))) (eq-or-lt_of_le (omega arith)));
     }
     by false t n = record {
       many = rw t (omega (arith, h.many));

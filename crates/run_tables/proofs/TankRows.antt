@@ -8,8 +8,8 @@ use native.Mathlib.Nat.{eq-or-lt_of_le}
 use native.Mathlib.Omega.{arith}
 use lib.Dec.{eqb}
 use lib.Ieee.{Float, nan}
-use lib.ListN.{get_or, set, length, length_set}
-use lib.Seq.{get_or-set_same, get_or_set_other}
+use lib.ListN.{get_or, set, length, length-set}
+use lib.Seq.{get_or-set_same, get_or-set_other}
 use Rattle.model.specs.Blank.{blank_node}
 use Rattle.model.specs.Nodes.{is_tank_type}
 use Rattle.model.specs.declared.node.Junction.{Junction}
@@ -66,7 +66,7 @@ module _ {table : List Node} {nodes : List ℕ} {n : ℕ} {numbers : List Float}
   tanks_put {k} {ns} {t} h l m e a b = rw (a, b) (record {
     most = omega arith;
     long = block_length nan (t.elevation.0 ∷ rest t) numbers (5 * k) ∙ h.long;
-    wide = length_set overflows k (cond t.overflow 1 0) ∙ h.wide;
+    wide = length-set overflows k (cond t.overflow 1 0) ∙ h.wide;
     each = λ j q.
         ⊎_elim (λ s. rw s (e ∙ ap types.Tank (sym here))) (λ s. h.each j s ∙ ap types.Tank (sym (before j s))) (eq-or-lt_of_le (omega arith));
   })
@@ -92,4 +92,4 @@ module _ {table : List Node} {nodes : List ℕ} {n : ℕ} {numbers : List Float}
           (block_before nan (t.elevation.0 ∷ rest t) numbers (5 * k) (5 * j + 2) (omega arith))
           (block_before nan (t.elevation.0 ∷ rest t) numbers (5 * k) (5 * j + 3) (omega arith))
           (block_before nan (t.elevation.0 ∷ rest t) numbers (5 * k) (5 * j + 4) (omega arith))
-          (ap (λ (w : ℕ). not (eqb w 0)) (get_or_set_other overflows k j (cond t.overflow 1 0) 0 (λ q. omega arith)))
+          (ap (λ (w : ℕ). not (eqb w 0)) (get_or-set_other overflows k j (cond t.overflow 1 0) 0 (λ q. omega arith)))

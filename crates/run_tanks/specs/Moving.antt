@@ -6,7 +6,6 @@ use Rattle.number.specs.Constants.{MAX}
 use Rattle.number.specs.Operators.{◌⊖◌}
 use Rattle.model.specs.Loops.{through}
 use Rattle.run_tables.specs.Rows.{tank_at}
-use Rattle.tank.specs.Reach.{seconds_of}
 use Rattle.tank.specs.Tanks.{head_after, time_to_fill_or_drain}
 
 -- tank k's head after some seconds of its demand
@@ -23,7 +22,7 @@ abbrev pub smaller_tank_of : List ℕ → List Float → List ℕ → List Float
 smaller_tank_of nodes numbers overflows heads demands k smallest =
     let j = get_or nodes k 0 in
     let t = tank_at numbers overflows k in
-    min (seconds_of (time_to_fill_or_drain t (record { 0 = get_or heads j nan ⊖ t.elevation.0 }) (record { 0 = get_or demands j nan }))) smallest
+    min (time_to_fill_or_drain t (record { 0 = get_or heads j nan ⊖ t.elevation.0 }) (record { 0 = get_or demands j nan })) smallest
 
 unfoldable pub tank_time_of : List ℕ → List Float → List ℕ → ℕ → List Float → List Float → ℕ
 tank_time_of nodes numbers overflows n heads demands = through n (smaller_tank_of nodes numbers overflows heads demands) MAX

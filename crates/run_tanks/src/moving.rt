@@ -5,7 +5,7 @@ ghost use Rattle.run_tanks.specs.Moving.{heads_after, tank_time_of};
 
 use number::constants::MAX;
 use run_tables::tank_at;
-use tank::{CubicFeetPerSecond, Feet, seconds_of};
+use tank::{CubicFeetPerSecond, Feet};
 
 fn smaller(candidate: u64, smallest: u64) -> u64
     ensures { result ≡ min candidate smallest }
@@ -36,8 +36,8 @@ pub fn tank_time<'a>(
         let head = heads[j];
         let demand = demands[j];
         let level = Feet(head - t.elevation.0);
-        let reach = t.time_to_fill_or_drain(level, CubicFeetPerSecond(demand));
-        smallest = smaller(seconds_of(reach), smallest);
+        let candidate = t.time_to_fill_or_drain(level, CubicFeetPerSecond(demand));
+        smallest = smaller(candidate, smallest);
         k += 1;
     }
     smallest

@@ -3,7 +3,6 @@ use mathlib.Core.Path.{◌≡◌, refl, sym, ap, ◌∙◌}
 use mathlib.Core.Bool.{true, not, true≢false}
 use Prim.Native.Nat.{ℕ, ◌<◌, min}
 use native.Mathlib.Omega.{arith}
-use borrow.Author.Tests.{not-true}
 use lib.Seq.{set-get_or}
 use Rattle.number.specs.Constants.{MAX}
 use Rattle.stops.specs.Tankless.{NoLevelTime, NoTankTime}
@@ -18,7 +17,7 @@ use Rattle.model.specs.declared.state.NodeState.{NodeState}
 use Rattle.model.specs.declared.state.State.{State}
 use Rattle.model.proofs.Loops.{held_at}
 use Rattle.model.proofs.Pointwise.{idle, on_nodes}
-use Rattle.control.proofs.Levels.{never_there}
+use Rattle.control.specs.Controls.{level_time}
 use Rattle.tables.specs.Fit.{ConditionFit, TablesFit}
 use Rattle.state_node.specs.Tanks.{moved, tank_candidate}
 use Rattle.state.specs.Tanks.{node_moved, update_tanks}
@@ -30,6 +29,11 @@ no_tank_time : (k : NodeType) (s : NodeState) → not (is_tank_type k) ≡ true 
 no_tank_time (Reservoir r) s e = refl
 no_tank_time (Tank t) s e = absurd (true≢false (sym e))
 no_tank_time (Junction j) s e = refl
+
+no_level_time : (k : NodeType) (s : NodeState) → not (is_tank_type k) ≡ true → (target : _) → level_time k s target ≡ MAX
+no_level_time (Reservoir r) s e target = refl
+no_level_time (Tank t) s e target = absurd (true≢false (sym e))
+no_level_time (Junction j) s e target = refl
 
 no_tank_moves : (k : NodeType) (s : NodeState) (seconds : ℕ) → not (is_tank_type k) ≡ true → moved k s seconds ≡ s
 no_tank_moves (Reservoir r) s seconds e = refl
@@ -61,8 +65,8 @@ module _ (p : Project) (none : no_tanks p ≡ true) where
     unfolding moment_of
     never_level nodes (HighPressure n x) e f = tt
     never_level nodes (LowPressure n x) e f = tt
-    never_level nodes (HighLevel n x) e f = never_there (node_at p n).kind (node_state_at s n) x (not-true _ (no_tank n (omega (arith, f.0))))
-    never_level nodes (LowLevel n x) e f = never_there (node_at p n).kind (node_state_at s n) x (not-true _ (no_tank n (omega (arith, f.0))))
+    never_level nodes (HighLevel n x) e f = no_level_time (node_at p n).kind (node_state_at s n) (no_tank n (omega (arith, f.0))) x
+    never_level nodes (LowLevel n x) e f = no_level_time (node_at p n).kind (node_state_at s n) (no_tank n (omega (arith, f.0))) x
     never_level nodes (Time seconds) e f = tt
     never_level nodes (ClockTime seconds) e f = tt
 

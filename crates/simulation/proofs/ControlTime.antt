@@ -1,6 +1,7 @@
 -- The controls' candidates by kind: `control_time`. Assumes nothing.
 use Prim.Native.Nat.{ℕ, ◌<◌}
-use mathlib.Core.Path.{◌≡◌, sym, ap, ◌∙◌}
+use mathlib.Core.Path.{◌≡◌, refl, sym, ap, ◌∙◌}
+use mathlib.Core.Bool.{false, true≢false}
 use mathlib.Core.List.{List, map}
 use lib.Ieee.{Float, nan}
 use lib.ListN.{get_or, get_or-map}
@@ -9,17 +10,16 @@ use Rattle.number.specs.Operators.{◌⊖◌}
 use Rattle.clock.specs.Steps.{clock_time, time_candidate, clock_candidate}
 use Rattle.clock.specs.Triggers.{control_time}
 use Rattle.control.specs.Controls.{level_time}
-use Rattle.control.proofs.Levels.{never_there}
 use Rattle.model.specs.Blank.{node_at, node_state_at, control_at, blank_node_state}
+use Rattle.model.specs.Nodes.{is_tank_type}
 use Rattle.model.specs.declared.control.ControlCondition.{ControlCondition}
 use Rattle.model.specs.declared.control.ControlCondition.TheVariants.{HighPressure, LowPressure, HighLevel, LowLevel, Time, ClockTime}
 use Rattle.model.specs.declared.node.NodeType.{NodeType}
-use Rattle.model.specs.declared.node.NodeType.TheVariants.{Tank}
+use Rattle.model.specs.declared.node.NodeType.TheVariants.{Reservoir, Tank, Junction}
 use Rattle.model.specs.declared.project.Project.{Project}
 use Rattle.model.specs.declared.state.NodeState.{NodeState}
 use Rattle.model.specs.declared.state.State.{State}
 use Rattle.tables.specs.Fit.{ConditionFit, TablesFit}
-use Rattle.tank.specs.Reach.{seconds_of}
 use Rattle.tank.specs.Tanks.{time_to_reach_level}
 use Rattle.tank.specs.declared.tank.Tank as tanks
 use Rattle.run_state.specs.Lists.{head_of, demand_of, heads_of, demands_of}
@@ -36,15 +36,19 @@ use Rattle.simulation.proofs.Accepted.{each_listed}
 
 -- a level control's time on the arrays is its time on the state
 wait_is : (t : tanks.Tank) (k : NodeType) (x : NodeState) (target head demand : Float) → k ≡ Tank t → head ≡ x.head → demand ≡ x.demand
-    → seconds_of (time_to_reach_level t (record { 0 = head ⊖ t.elevation.0 }) (record { 0 = target }) (record { 0 = demand })) ≡ seconds_of (level_time k x target)
-unfolding level_time time_to_reach_level
+    → time_to_reach_level t (record { 0 = head ⊖ t.elevation.0 }) (record { 0 = target }) (record { 0 = demand }) ≡ level_time k x target
 wait_is t k x target head demand e h d = rw (e, h, d)
+
+never_there : (k : NodeType) (x : NodeState) (target : Float) → is_tank_type k ≡ false → level_time k x target ≡ MAX
+never_there (Reservoir r) x target e = refl
+never_there (Tank t) x target e = absurd (true≢false e)
+never_there (Junction j) x target e = refl
 
 module _ {p : Project} (fit : TablesFit p) {nodes : List ℕ} {numbers : List Float} {overflows : List ℕ} {m : ℕ}
     (laid : TanksLaid p.nodes p.counts.nodes nodes numbers overflows m) (s : State) where
   -- a level of no tank
   unreached : (c : ControlCondition) → ConditionFit p.counts.nodes c
-      → Unreached (λ (l : Level). stands_at nodes m l.tank) (λ l. seconds_of (level_time (node_at p l.tank).kind (node_state_at s l.tank) l.target)) (trigger_of c)
+      → Unreached (λ (l : Level). stands_at nodes m l.tank) (λ l. level_time (node_at p l.tank).kind (node_state_at s l.tank) l.target) (trigger_of c)
   unreached (HighPressure i x) h = tt
   unreached (LowPressure i x) h = tt
   unreached (HighLevel i x) h = λ e. never_there (node_at p i).kind (node_state_at s i) x (none_stands laid i h.0 e)

@@ -24,7 +24,6 @@ use Rattle.run_tables.specs.Tanks.{tank_nodes}
 use Rattle.run_tables.proofs.Along.{chosen_cond, held_along}
 use Rattle.run_tanks.specs.Moving.{smaller_tank_of, tank_time_of}
 use Rattle.state_node.specs.Tanks.{tank_candidate}
-use Rattle.tank.specs.Reach.{seconds_of}
 use Rattle.tank.specs.Tanks.{time_to_fill_or_drain}
 use Rattle.tank.specs.declared.tank.Tank as tanks
 use Rattle.simulation.specs.Steps.{smaller_tank, tank_time}
@@ -35,7 +34,7 @@ no_candidate (Tank t) x e = absurd (true≢false e)
 no_candidate (Junction j) x e = refl
 
 candidate_is : (t : tanks.Tank) (k : NodeType) (x : NodeState) (head demand : Float) → k ≡ Tank t → head ≡ x.head → demand ≡ x.demand
-    → seconds_of (time_to_fill_or_drain t (record { 0 = head ⊖ t.elevation.0 }) (record { 0 = demand })) ≡ tank_candidate k x
+    → time_to_fill_or_drain t (record { 0 = head ⊖ t.elevation.0 }) (record { 0 = demand }) ≡ tank_candidate k x
 candidate_is t k x head demand e h d = rw (e, h, d)
 
 -- only tanks need be visited

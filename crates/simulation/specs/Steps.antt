@@ -9,7 +9,6 @@ use Rattle.model.specs.Loops.{through, all_below}
 use Rattle.model.specs.Nodes.{is_tank}
 use Rattle.model.specs.declared.project.Project.{Project}
 use Rattle.model.specs.declared.state.State.{State}
-use Rattle.tank.specs.Reach.{seconds_of}
 use Rattle.control.specs.Controls.{level_time}
 pub use Rattle.control.specs.Controls.{Level, trigger_of}
 unfoldable pub use Rattle.run_kinds.specs.Triggers.{listed}
@@ -64,7 +63,7 @@ tank_time p s = through p.counts.nodes (smaller_tank p s) MAX
 unfoldable pub moment_of : Project → State → Moment Level
 moment_of p s = record {
   tank = tank_time p s;
-  level = λ l. seconds_of (level_time (node_at p l.tank).kind (node_state_at s l.tank) l.target);
+  level = λ l. level_time (node_at p l.tank).kind (node_state_at s l.tank) l.target;
 }
 
 -- ---- the step

@@ -5,10 +5,10 @@ use mathlib.Core.Path.{◌≡◌, refl, sym, ap, ◌∙◌}
 use mathlib.Core.Bool.{Bool, true, false, cond, ◌&&◌, ◌||◌, true≢false, or-false, or_comm}
 use mathlib.Core.List.{List, map}
 use native.Mathlib.Omega.{arith}
-use borrow.Author.Tests.{eqb-true, eqb-false, eq-eqb, ne_eqb, lt_ltb}
+use borrow.Author.Tests.{eqb-true, eqb-false, eq-eqb, ne_eqb, lt-ltb}
 use lib.Dec.{eqb, ltb}
 use lib.Ieee.{Float, nan, lt}
-use lib.ListN.{length, get_or, set, length_set, length-map, get_or-map}
+use lib.ListN.{length, get_or, set, length-set, length-map, get_or-map}
 use lib.Seq.{ext_get_or, set-get_or, map-set_same}
 use Rattle.number.specs.Constants.{decimal}
 use Rattle.model.specs.Blank.{node_at, link_at, node_state_at, link_state_at, blank_node_state, blank_link_state}
@@ -45,7 +45,7 @@ abbrev mark_all : ℕ → (ℕ → Bool) → List ℕ → List ℕ
 mark_all L c st = through L (mark_at c) st
 
 mark_length : (L : ℕ) (c : ℕ → Bool) (st : List ℕ) → length (mark_all L c st) ≡ length st
-mark_length L c st = kept_length 0 L (mark_at c) (λ k xs. length_set xs k _) st
+mark_length L c st = kept_length 0 L (mark_at c) (λ k xs. length-set xs k _) st
 
 mark_at_lem : (L : ℕ) (c : ℕ → Bool) (st : List ℕ) → L ≤ length st → (l : ℕ) → get_or (mark_all L c st) l 0 ≡ cond (ltb l L) (cond (c l) TempClosed (get_or st l 0)) (get_or st l 0)
 mark_at_lem L c st h l = each_at 0 L (λ i x. cond (c i) TempClosed x) st h l
@@ -108,7 +108,7 @@ any_hit n e f h =
     same_turns n (λ j found. found || (eqb e j && f j)) (λ j found. cond (eqb j e) (found || f j) found) false
     (λ j found l. ap (λ (b : Bool). found || (b && f j)) (eqb_swap e j) ∙ by (eqb j e) found (f j))
     ∙ hit n e (λ j found. found || f j) false
-    ∙ ap (λ (b : Bool). cond b (false || f e) false) (lt_ltb e n h)
+    ∙ ap (λ (b : Bool). cond b (false || f e) false) (lt-ltb e n h)
   where
     by : (b found x : Bool) → (found || (b && x)) ≡ cond b (found || x) found
     by true found x = refl

@@ -7,7 +7,7 @@ use native.Mathlib.Omega.{arith}
 use lib.Dec.{ltb}
 use lib.Ieee.{Float, nan}
 use lib.ListN.{get_or, set, length, take, drop, length-drop}
-use lib.Seq.{get_or-set_same, get_or_set_other, take_all}
+use lib.Seq.{get_or-set_same, get_or-set_other, take_all}
 use borrow.Author.Tests.{ltb-true, ltb-false}
 use Rattle.number.specs.Constants.{decimal}
 use Rattle.number.specs.Operators.{◌·◌, ◌⊕◌}
@@ -74,7 +74,7 @@ module _ (p : Project) (time : ℕ) (table : List Float) where
     unfolding multipliers_filled multiplier_in_force pattern_at
     entry k true e =
         let l : k < 32 = ltb-true k 32 e in
-        get_or_set_other (through 32 (changed value nan) table) 32 k (decimal 1 0) nan (λ q. omega arith) ∙ below value nan table 32 k l (omega arith)
+        get_or-set_other (through 32 (changed value nan) table) 32 k (decimal 1 0) nan (λ q. omega arith) ∙ below value nan table 32 k l (omega arith)
     entry k false e = none_at
 
     pub multiplier_is : (q : PatternIndex) → get_or multipliers_of (place_of q) nan ≡ multiplier_of p t q

@@ -2,7 +2,6 @@
 use Rattle.std.specs.Prelude.{ℕ}
 use Rattle.number.specs.Constants.{MAX}
 use Rattle.number.specs.Operators.{◌⊖◌}
-use Rattle.tank.specs.Reach.{seconds_of}
 use Rattle.tank.specs.Tanks.{head_after, time_to_fill_or_drain}
 use Rattle.model.specs.declared.node.NodeType.{NodeType}
 use Rattle.model.specs.declared.node.NodeType.TheVariants.{Reservoir, Tank, Junction}
@@ -21,5 +20,5 @@ moved (Junction j) s seconds = s
 -- a tank's candidate; other nodes have none
 abbrev pub tank_candidate : NodeType → NodeState → ℕ
 tank_candidate (Reservoir r) s = MAX
-tank_candidate (Tank t) s = seconds_of (time_to_fill_or_drain t (record { 0 = s.head ⊖ t.elevation.0 }) (record { 0 = s.demand }))
+tank_candidate (Tank t) s = time_to_fill_or_drain t (record { 0 = s.head ⊖ t.elevation.0 }) (record { 0 = s.demand })
 tank_candidate (Junction j) s = MAX

@@ -8,7 +8,7 @@ use native.Mathlib.Numerals.{add-one}
 use native.Mathlib.Omega.{arith}
 use lib.Dec.{ltb}
 use borrow.Author.Tests.{ltb-true, ltb-false}
-use lib.ListN.{length, take, drop, set, get_or, length_append, length_set}
+use lib.ListN.{length, take, drop, set, get_or, length-append, length-set}
 use lib.Seq.{take_all, take_at, drop-cons, set_at, append_snoc}
 use Rattle.clock.specs.declared.length.Times.{Times}
 use Rattle.model.specs.declared.control.Control.{Control}
@@ -35,7 +35,7 @@ filling_turned : {all left before out : List ℕ} {n u : ℕ} {rest : List ℕ} 
     → Filling all rest before (set out n u) (n + 1)
 filling_turned {all} {left} {before} {out} {n} {u} {rest} f e l = record {
   had = f.had ++ (u ∷ []);
-  count = omega (arith, f.count, length_append f.had (u ∷ []));
+  count = omega (arith, f.count, length-append f.had (u ∷ []));
   whole = f.whole ∙ rw e (sym (append_snoc f.had u rest));
   room = omega arith;
   made =
@@ -85,7 +85,7 @@ module _ {o : Times} {times clocks : List ℕ} {count from : ℕ} {before : List
     pub stops_turned : (next : ℕ) → next ≡ next_after o times clocks count time → time < o.duration → n < length out
         → Stops o times clocks count from before (set out n next) next (n + 1)
     stops_turned next e t l = record {
-      same = simp length_set f.same;
+      same = simp length-set f.same;
       of = λ controls k. filling_turned (f.of controls k) (next_is k.timely time next (rw (← k.noted.0, ← k.noted.1) e) t) (omega (arith, f.same));
     }
 

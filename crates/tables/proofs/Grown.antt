@@ -8,8 +8,8 @@ use native.Mathlib.Omega.{arith}
 use lib.Dec.{leb, ltb}
 use lib.Ieee.{Float, nan}
 use lib.ListN.{length, get_or, set}
-use lib.Seq.{get_or-set_same, get_or_set_other}
-use borrow.Author.Tests.{ltb-true, lt_ltb}
+use lib.Seq.{get_or-set_same, get_or-set_other}
+use borrow.Author.Tests.{ltb-true, lt-ltb}
 use Rattle.model.specs.Loops.{all_below}
 use Rattle.model.specs.declared.control.Control.{Control}
 use Rattle.model.specs.declared.control.ControlCondition.{ControlCondition}
@@ -34,7 +34,7 @@ use Rattle.table_entry.proofs.Tests.{and_grow}
 
 -- ---- a count grows
 pub below_grows : (i : ℕ) {m n : ℕ} → m ≤ n → ltb i m ≡ true → ltb i n ≡ true
-below_grows i {m} {n} h e = lt_ltb i n (omega (arith, ltb-true i m e))
+below_grows i {m} {n} h e = lt-ltb i n (omega (arith, ltb-true i m e))
 
 pub pattern_index_grows : (i : PatternIndex) {m n : ℕ} → m ≤ n → pattern_index_ok m i ≡ true → pattern_index_ok n i ≡ true
 unfolding pattern_index_ok
@@ -100,7 +100,7 @@ unfolding all_below
 all_below_set test xs n x d h e f =
     let before : ℕ → Bool = λ i. test i (get_or xs i d) in
     let after : ℕ → Bool = λ i. test i (get_or (set xs n x) i d) in
-    let old = all_below_grows n before after (λ i l g. rw (get_or_set_other xs n i x d (omega arith)) g) e in
+    let old = all_below_grows n before after (λ i l g. rw (get_or-set_other xs n i x d (omega arith)) g) e in
     rw (add-one, old, get_or-set_same xs n x d h, f)
 
 -- a pattern passes by its own multipliers alone

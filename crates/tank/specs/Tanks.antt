@@ -5,25 +5,21 @@ use Rattle.number.specs.Constants.{decimal, PI, MAX}
 use Rattle.number.specs.Operators.{◌·◌, ◌÷◌, ◌⊕◌, ◌⊖◌}
 use Rattle.number.specs.Order.{abs, clamp}
 use Rattle.number.specs.Seconds.{round_to_u64, u64_to_f64}
-use Rattle.tank.specs.Reach.{reach_of}
-use Rattle.tank.specs.declared.reach.Reach.{Reach}
 use Rattle.tank.specs.declared.units.Feet.{Feet}
 use Rattle.tank.specs.declared.units.CubicFeet.{CubicFeet}
 use Rattle.tank.specs.declared.units.CubicFeetPerSecond.{CubicFeetPerSecond}
 use Rattle.tank.specs.declared.tank.Tank.{Tank}
 
--- ---- volumes
 -- "A volume is 0 below level 0, else level × PI × diameter × diameter / 4, in that order of operations."
 unfoldable pub volume_at_level : Tank → Feet → CubicFeet
 volume_at_level t level =
     let d = t.diameter.0 in
     record { 0 = cond (lt level.0 (decimal 0 0)) (decimal 0 0) (level.0 · PI · d · d ÷ decimal 4 0) }
 
--- ---- the seconds that the Rust answers
 -- "0 if the volume gap is under 0.5; if gap and flow are both positive or both negative, gap / flow rounded half away from zero, MAX at or above 2^64;
 -- otherwise MAX"
-unfoldable pub gap_seconds : CubicFeet → CubicFeetPerSecond → ℕ
-gap_seconds gap flow =
+unfoldable pub gap_time : CubicFeet → CubicFeetPerSecond → ℕ
+gap_time gap flow =
     let v = gap.0 in
     let q = flow.0 in
     let zero = decimal 0 0 in
@@ -31,28 +27,17 @@ gap_seconds gap flow =
     (cond ((lt zero v && lt zero q) || (lt v zero && lt q zero)) (round_to_u64 (v ÷ q)) MAX)
 
 -- "`time_to_reach_level`: greatest usize (MAX) if the target is outside least..greatest", else by the gap in volume
-unfoldable pub seconds_to_reach_level : Tank → Feet → Feet → CubicFeetPerSecond → ℕ
-seconds_to_reach_level t current target flow =
+unfoldable pub time_to_reach_level : Tank → Feet → Feet → CubicFeetPerSecond → ℕ
+time_to_reach_level t current target flow =
     cond (lt t.max_level.0 target.0 || lt target.0 t.min_level.0) MAX
-    (gap_seconds (record { 0 = (volume_at_level t target).0 ⊖ (volume_at_level t current).0 }) flow)
+    (gap_time (record { 0 = (volume_at_level t target).0 ⊖ (volume_at_level t current).0 }) flow)
 
 -- "`time_to_fill_or_drain`: MAX at flow 0, else the smaller of the times to greatest and least."
-unfoldable pub seconds_to_fill_or_drain : Tank → Feet → CubicFeetPerSecond → ℕ
-seconds_to_fill_or_drain t current flow =
+unfoldable pub time_to_fill_or_drain : Tank → Feet → CubicFeetPerSecond → ℕ
+time_to_fill_or_drain t current flow =
     cond (eq flow.0 (decimal 0 0)) MAX
-    (min (seconds_to_reach_level t current t.max_level flow) (seconds_to_reach_level t current t.min_level flow))
+    (min (time_to_reach_level t current t.max_level flow) (time_to_reach_level t current t.min_level flow))
 
--- ---- the answers. Document 02, R-5: "The old 0 is arrived, MAX never, the rest the same seconds"
-unfoldable pub gap_time : CubicFeet → CubicFeetPerSecond → Reach
-gap_time gap flow = reach_of (gap_seconds gap flow)
-
-unfoldable pub time_to_reach_level : Tank → Feet → Feet → CubicFeetPerSecond → Reach
-time_to_reach_level t current target flow = reach_of (seconds_to_reach_level t current target flow)
-
-unfoldable pub time_to_fill_or_drain : Tank → Feet → CubicFeetPerSecond → Reach
-time_to_fill_or_drain t current flow = reach_of (seconds_to_fill_or_drain t current flow)
-
--- ---- heads
 -- "`new_head`: level + change / (PI × diameter × diameter / 4), held within least..greatest, plus elevation."
 unfoldable pub new_head : Tank → CubicFeet → Feet → Feet
 new_head t change head =

@@ -1,8 +1,6 @@
 // A cylindrical tank of `tank.rs`, with a level, a volume and a flow kept apart.
-mod reach;
 mod tank;
 mod units;
 
-pub use reach::{Reach, seconds_of};
 pub use tank::{Tank, gap_time};
 pub use units::{CubicFeet, CubicFeetPerSecond, Feet};

@@ -1,11 +1,9 @@
 // The functions of a tank: volume by level, time to a level, and the head after a change of volume.
 ghost use Rattle.std.specs.Prelude.{◌≡◌};
-ghost use Rattle.tank.specs.Tanks.{volume_at_level, gap_seconds, seconds_to_reach_level, seconds_to_fill_or_drain, gap_time, time_to_reach_level, time_to_fill_or_drain, new_head, head_after};
-ghost use Rattle.tank.specs.Reach.{seconds_of};
+ghost use Rattle.tank.specs.Tanks.{volume_at_level, gap_time, time_to_reach_level, time_to_fill_or_drain, new_head, head_after};
 
-use crate::reach::{Reach, reach_of, seconds_of};
 use crate::units::{CubicFeet, CubicFeetPerSecond, Feet};
-use number::constants::PI;
+use number::constants::{MAX, PI};
 
 // Elevation, levels and diameter are in feet; `overflow`: it does not close when it is full.
 #[derive(Drop)]
@@ -18,23 +16,22 @@ pub struct Tank {
     pub overflow: bool,
 }
 
-// When a flow has made up a gap in volume: it has where the gap is under half a cubic foot, and never does where it flows the other way.
-pub fn gap_time(gap: CubicFeet, flow: CubicFeetPerSecond) -> Reach
-    ensures value { result ≡ gap_time gap flow }
-    ensures result_value { seconds_of result ≡ gap_seconds gap flow }
+// The seconds until a flow has made up a gap in volume: 0 for a gap under half a cubic foot, MAX where it flows the other way.
+pub fn gap_time(gap: CubicFeet, flow: CubicFeetPerSecond) -> u64
+    ensures { result ≡ gap_time gap flow }
 {
     let volume = gap.0;
     let rate = flow.0;
     if number::abs(volume) < 0.5 {
-        return Reach::Arrived;
+        return 0;
     }
     if volume > 0.0 && rate > 0.0 {
-        return reach_of(number::round_to_u64(volume / rate));
+        return number::round_to_u64(volume / rate);
     }
     if volume < 0.0 && rate < 0.0 {
-        return reach_of(number::round_to_u64(volume / rate));
+        return number::round_to_u64(volume / rate);
     }
-    Reach::Never
+    MAX
 }
 
 impl Tank {
@@ -49,42 +46,36 @@ impl Tank {
         CubicFeet(height * PI * diameter * diameter / 4.0)
     }
 
-    // When the level is at a target.
-    pub fn time_to_reach_level(self, current: Feet, target: Feet, flow: CubicFeetPerSecond) -> Reach
-        ensures value { result ≡ time_to_reach_level self current target flow }
-        ensures result_value { seconds_of result ≡ seconds_to_reach_level self current target flow }
+    // The seconds until the level is at a target: 0 where it is there already, MAX where it never will be.
+    pub fn time_to_reach_level(self, current: Feet, target: Feet, flow: CubicFeetPerSecond) -> u64
+        ensures { result ≡ time_to_reach_level self current target flow }
     {
         let level = target.0;
         let greatest = self.max_level.0;
         let least = self.min_level.0;
         if level > greatest {
-            return Reach::Never;
+            return MAX;
         }
         if level < least {
-            return Reach::Never;
+            return MAX;
         }
         let want = self.volume_at_level(target);
         let have = self.volume_at_level(current);
         gap_time(CubicFeet(want.0 - have.0), flow)
     }
 
-    // When the tank is at its greatest or its least level, whichever is sooner.
-    pub fn time_to_fill_or_drain(self, current: Feet, flow: CubicFeetPerSecond) -> Reach
-        ensures value { result ≡ time_to_fill_or_drain self current flow }
-        ensures result_value { seconds_of result ≡ seconds_to_fill_or_drain self current flow }
+    pub fn time_to_fill_or_drain(self, current: Feet, flow: CubicFeetPerSecond) -> u64
+        ensures { result ≡ time_to_fill_or_drain self current flow }
     {
         let rate = flow.0;
         if rate == 0.0 {
-            return Reach::Never;
+            return MAX;
         }
         let greatest = self.max_level;
         let least = self.min_level;
-        let full = seconds_of(self.time_to_reach_level(current, greatest, flow));
-        let empty = seconds_of(self.time_to_reach_level(current, least, flow));
-        if full < empty {
-            return reach_of(full);
-        }
-        reach_of(empty)
+        let full = self.time_to_reach_level(current, greatest, flow);
+        let empty = self.time_to_reach_level(current, least, flow);
+        if full < empty { full } else { empty }
     }
 
     // The head after a change of volume.

@@ -6,7 +6,7 @@ use mathlib.Core.List.{List}
 use native.Mathlib.Omega.{arith}
 use borrow.Author.Tests.{eqb-true}
 use lib.Dec.{eqb}
-use lib.ListN.{get_or, length, length_append}
+use lib.ListN.{get_or, length, length-append}
 use Rattle.model.specs.declared.link.Link.{Link}
 use Rattle.run_tables.specs.Chosen.{chosen}
 use Rattle.run_tables.specs.Held.{Distinct}
@@ -45,8 +45,8 @@ module _ (table : List Link) (count : ℕ) (nodes : List ℕ) (n : ℕ) (distinc
       omega (
         arith,
         total k (omega arith),
-        length_append (joined (group_in table count nodes) k) (group_in table count nodes k),
-        length_append (into_in table count nodes k) (out_of_in table count nodes k),
+        length-append (joined (group_in table count nodes) k) (group_in table count nodes k),
+        length-append (into_in table count nodes k) (out_of_in table count nodes k),
         next_seen (end_in table) nodes count k (distinct k h),
         next_seen (start_in table) nodes count k (distinct k h),
       )

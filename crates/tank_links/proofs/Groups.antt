@@ -7,9 +7,9 @@ use mathlib.Core.List.{List, [], ◌∷◌, ◌++◌}
 use mathlib.Core.Logic.{⊎_elim}
 use native.Mathlib.Nat.{eq-or-lt_of_le}
 use native.Mathlib.Omega.{arith}
-use borrow.Author.Tests.{eqb-true, ne_eqb, lt_ltb, le_ltb, ltb-true}
+use borrow.Author.Tests.{eqb-true, ne_eqb, lt-ltb, le-ltb, ltb-true}
 use lib.Dec.{eqb, ltb}
-use lib.ListN.{length, get_or, length_append, get_or_append}
+use lib.ListN.{length, get_or, length-append, get_or-append}
 use lib.Seq.{get_or-append-add}
 use Rattle.clock.specs.Machine.{bit}
 use Rattle.clock.specs.Demand3.{count_of}
@@ -28,11 +28,11 @@ count_append t (x ∷ xs) ys = omega (arith, count_append t xs ys)
 last_count : (n : ℕ) (t : ℕ → Bool) (k : ℕ) → bit (ltb k n && t k) + bit (eqb k n && t n) ≡ bit (ltb k (suc n) && t k)
 last_count n t k =
     lt_cases k n
-    (λ l. rw (lt_ltb k n l, lt_ltb k (suc n) (omega arith), ne_eqb k n (λ e. omega arith)) (omega arith))
+    (λ l. rw (lt-ltb k n l, lt-ltb k (suc n) (omega arith), ne_eqb k n (λ e. omega arith)) (omega arith))
     (λ l.
     eqb_ind (λ b. bit (ltb k n && t k) + bit (b && t n) ≡ bit (ltb k (suc n) && t k)) k n
-    (λ e. rw (le_ltb k n l, lt_ltb k (suc n) (omega arith), e) (omega arith))
-    (λ e. rw (le_ltb k n l, le_ltb k (suc n) (omega arith)) (omega arith)))
+    (λ e. rw (le-ltb k n l, lt-ltb k (suc n) (omega arith), e) (omega arith))
+    (λ e. rw (le-ltb k n l, le-ltb k (suc n) (omega arith)) (omega arith)))
 
 one_more : (b : Bool) (k n : ℕ) (xs : List ℕ) → count_of (eqb k) (cond b (xs ++ (n ∷ [])) xs) ≡ count_of (eqb k) xs + bit (eqb k n && b)
 unfolding count_of
@@ -49,7 +49,7 @@ one_more false k n xs = by (eqb k n)
 
 pub chosen_count : (n : ℕ) (t : ℕ → Bool) (k : ℕ) → count_of (eqb k) (chosen t n) ≡ bit (ltb k n && t k)
 unfolding chosen count_of
-chosen_count zero t k = rw (le_ltb k 0 (omega arith))
+chosen_count zero t k = rw (le-ltb k 0 (omega arith))
 chosen_count (suc n) t k = one_more (t n) k n (chosen t n) ∙ rw (chosen_count n t k) (last_count n t k)
 
 -- ---- "each group is a rearrangement of exactly the links with an end at its tank": every number is as often in the one as among the other
@@ -81,7 +81,7 @@ unfolding joined
 grows f zero k h = let z : k ≡ 0 = omega arith in rw z (omega arith)
 grows f (suc n) k h =
     lt_cases k (suc n)
-    (λ l. omega (arith, grows f n k (omega arith), length_append (joined f n) (f n)))
+    (λ l. omega (arith, grows f n k (omega arith), length-append (joined f n) (f n)))
     (λ l. let z : k ≡ suc n = omega arith in rw z (omega arith))
 
 pub group_at : (f : ℕ → List ℕ) (n k i : ℕ) → k < n → i < length (f k) → get_or (joined f n) (length (joined f k) + i) 0 ≡ get_or (f k) i 0
@@ -91,6 +91,6 @@ group_at f (suc n) k i h l =
     ⊎_elim
     (λ q. rw q (get_or-append-add (joined f n) (f n) i 0))
     (λ m.
-    get_or_append (joined f n) (f n) 0 (length (joined f k) + i) (omega (arith, length_append (joined f k) (f k), grows f n (suc k) m))
+    get_or-append (joined f n) (f n) 0 (length (joined f k) + i) (omega (arith, length-append (joined f k) (f k), grows f n (suc k) m))
     ∙ group_at f n k i m l)
     (eq-or-lt_of_le (omega arith))

@@ -7,7 +7,7 @@ use native.Mathlib.Numerals.{add-one}
 use native.Mathlib.Omega.{arith}
 use borrow.Author.Tests.{eqb-true, eq-eqb, le-leb, leb-true}
 use lib.Dec.{eqb, leb}
-use lib.ListN.{length, get_or, replicate, length_append, length-replicate, get_or_append}
+use lib.ListN.{length, get_or, replicate, length-append, length-replicate, get_or-append}
 use lib.Seq.{sets, length-sets, get_or-append-add}
 use Rattle.model.specs.Loops.{all_below}
 use Rattle.model.specs.declared.project.Project.{Project}
@@ -70,7 +70,7 @@ module _ (p : Project) where
   out k = links_out_of p (tank_node p k)
 
   pub next_begin : (k : ℕ) → begin p (suc k) ≡ begin p k + length (into k) + length (out k)
-  next_begin k = omega (arith, joined_more (λ m. group p (tank_node p m)) k, length_append (into k) (out k))
+  next_begin k = omega (arith, joined_more (λ m. group p (tank_node p m)) k, length-append (into k) (out k))
 
   -- ---- what stands in a table that is the one laid out
   pub record Stands (begins middles links : List ℕ) : Type 0 where
@@ -102,8 +102,8 @@ module _ (p : Project) where
       each = λ i l.
           ap (λ (m : ℕ). get_or links (m + i) 0) (s.first k (omega arith))
           ∙ s.entry (begin p k + i) (omega (arith, low i l, grows (λ m. group p (tank_node p m)) T (suc k) h, next_begin k))
-          ∙ group_at (λ m. group p (tank_node p m)) T k i h (omega (arith, low i l, length_append (into k) (out k)))
-          ∙ get_or_append (into k) (out k) 0 i (low i l);
+          ∙ group_at (λ m. group p (tank_node p m)) T k i h (omega (arith, low i l, length-append (into k) (out k)))
+          ∙ get_or-append (into k) (out k) 0 i (low i l);
     };
     out = record {
       count = omega (arith, s.second k h, last, next_begin k);
@@ -111,7 +111,7 @@ module _ (p : Project) where
           let q : get_or middles k 0 + i ≡ begin p k + (length (into k) + i) = omega (arith, s.second k h) in
           ap (λ (m : ℕ). get_or links m 0) q
           ∙ s.entry (begin p k + (length (into k) + i)) (omega (arith, high i l, grows (λ m. group p (tank_node p m)) T (suc k) h, next_begin k))
-          ∙ group_at (λ m. group p (tank_node p m)) T k (length (into k) + i) h (omega (arith, high i l, length_append (into k) (out k)))
+          ∙ group_at (λ m. group p (tank_node p m)) T k (length (into k) + i) h (omega (arith, high i l, length-append (into k) (out k)))
           ∙ get_or-append-add (into k) (out k) i 0;
     };
   }

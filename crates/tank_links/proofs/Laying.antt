@@ -6,7 +6,7 @@ use mathlib.Core.Logic.{⊎_elim}
 use native.Mathlib.Nat.{eq-or-lt_of_le}
 use native.Mathlib.Numerals.{add-one}
 use native.Mathlib.Omega.{arith}
-use lib.ListN.{length, get_or, set, length_append, get_or_append}
+use lib.ListN.{length, get_or, set, length-append, get_or-append}
 use lib.Seq.{sets, get_or_at}
 use Rattle.model.specs.declared.link.Link.{Link}
 use Rattle.run_tables.specs.Held.{TanksInside, Distinct}
@@ -20,7 +20,7 @@ use Rattle.tank_links.proofs.Putting.{sets_append, sets_last}
 pub length_listed : (f : ℕ → ℕ) (n : ℕ) → length (listed f n) ≡ n
 unfolding listed
 length_listed f zero = refl
-length_listed f (suc n) = omega (arith, length_append (listed f n) (f n ∷ []), length_listed f n)
+length_listed f (suc n) = omega (arith, length-append (listed f n) (f n ∷ []), length_listed f n)
 
 pub listed_at : (f : ℕ → ℕ) (n k : ℕ) → k < n → get_or (listed f n) k 0 ≡ f k
 unfolding listed
@@ -28,7 +28,7 @@ listed_at f zero k h = absurd (omega arith)
 listed_at f (suc n) k h =
     ⊎_elim
     (λ q. rw q (get_or_at (listed f n) (f n) [] 0 n (length_listed f n)))
-    (λ m. get_or_append (listed f n) (f n ∷ []) 0 k (omega (arith, length_listed f n)) ∙ listed_at f n k m)
+    (λ m. get_or-append (listed f n) (f n ∷ []) 0 k (omega (arith, length_listed f n)) ∙ listed_at f n k m)
     (eq-or-lt_of_le (omega arith))
 
 pub listed_same : (f g : ℕ → ℕ) (n : ℕ) → ((k : ℕ) → k < n → f k ≡ g k) → listed f n ≡ listed g n
@@ -43,7 +43,7 @@ joined_same f g (suc n) h = rw (joined_same f g n (λ k l. h k (omega arith)), h
 
 pub joined_more : (f : ℕ → List ℕ) (k : ℕ) → length (joined f (suc k)) ≡ length (joined f k) + length (f k)
 unfolding joined
-joined_more f k = length_append (joined f k) (f k)
+joined_more f k = length-append (joined f k) (f k)
 
 -- ---- the places of groups, each of two parts
 module _ (into out : ℕ → List ℕ) where
@@ -75,7 +75,7 @@ module _ {into out : ℕ → List ℕ} {n : ℕ} {begins₀ middles₀ links₀ 
     unfolding joined listed
     laying_next h {mid} {at'} {links'} {links''} m a e b = rw (add-one k) (record {
       most = omega arith;
-      to = omega (arith, e, m, y.to, joined_more (group into out) k, length_append (into k) (out k));
+      to = omega (arith, e, m, y.to, joined_more (group into out) k, length-append (into k) (out k));
       first = ap (λ (xs : List ℕ). set xs k at) y.first ∙ sets_last begins₀ 0 (listed (begin into out) k) at k (sym long_begins) ∙ ap (λ (v : ℕ). sets begins₀ 0 (listed (begin into out) k ++ (v ∷ []))) y.to;
       second = ap (λ (xs : List ℕ). set xs k mid) y.second ∙ sets_last middles₀ 0 (listed (middle into out) k) mid k (sym long_middles) ∙ ap (λ (v : ℕ). sets middles₀ 0 (listed (middle into out) k ++ (v ∷ []))) at_middle;
       made =
@@ -150,5 +150,5 @@ module _ (table : List Link) {count : ℕ} {nodes : List ℕ} {n : ℕ} {into ne
           arith,
           place_fits (suc k) l,
           joined_more (group (on_chain into next-into nodes) (on_chain out next-out nodes)) k,
-          length_append (on_chain into next-into nodes k) (on_chain out next-out nodes k),
+          length-append (on_chain into next-into nodes k) (on_chain out next-out nodes k),
         )

@@ -5,10 +5,10 @@ use mathlib.Core.Bool.{Bool, true, false, cond}
 use mathlib.Core.List.{List, [], ◌∷◌, ◌++◌, append-nil, append_assoc}
 use native.Mathlib.Nat.{le_of_suc-le-suc, not-suc-le-zero}
 use native.Mathlib.Omega.{arith}
-use borrow.Author.Tests.{lt_ltb, le_ltb, eqb-true, eqb-false}
+use borrow.Author.Tests.{lt-ltb, le-ltb, eqb-true, eqb-false}
 use lib.Dec.{eqb}
-use lib.ListN.{get_or, set, length, length_set, replicate, length-replicate, get_or-replicate}
-use lib.Seq.{get_or-set_same, get_or_set_other}
+use lib.ListN.{get_or, set, length, length-set, replicate, length-replicate, get_or-replicate}
+use lib.Seq.{get_or-set_same, get_or-set_other}
 use Rattle.run_tables.specs.Chosen.{chosen}
 use Rattle.run_tables.proofs.Listed.{chosen_few}
 use Rattle.tank_links.specs.Chains.{Rising, linked, Chains}
@@ -22,9 +22,9 @@ chain_linked : (n : ℕ) (next : List ℕ) (l : ℕ) (xs : List ℕ) → Chain n
 unfolding linked
 chain_linked zero next l [] c h = refl
 chain_linked zero next l (x ∷ xs) c h = absurd (not-suc-le-zero h)
-chain_linked (suc n) next l [] c h = rw (le_ltb l 384 c)
+chain_linked (suc n) next l [] c h = rw (le-ltb l 384 c)
 chain_linked (suc n) next l (x ∷ xs) c h =
-    rw (c.0, lt_ltb x 384 c.1) (ap (λ (ys : List ℕ). x ∷ ys) (chain_linked n next (get_or next x 0) xs c.2 (le_of_suc-le-suc h)))
+    rw (c.0, lt-ltb x 384 c.1) (ap (λ (ys : List ℕ). x ∷ ys) (chain_linked n next (get_or next x 0) xs c.2 (le_of_suc-le-suc h)))
 
 -- all of them are above i
 abbrev Above : ℕ → List ℕ → Type 0
@@ -36,7 +36,7 @@ chain_set next i v l [] a c = c
 chain_set next i v l (x ∷ xs) a c = (
   c.0,
   c.1,
-  subst (λ (m : ℕ). Chain (set next i v) m xs) (sym (get_or_set_other next i x v 0 (λ q. omega (arith, a.0, q)))) (chain_set next i v (get_or next x 0) xs a.1 c.2),
+  subst (λ (m : ℕ). Chain (set next i v) m xs) (sym (get_or-set_other next i x v 0 (λ q. omega (arith, a.0, q)))) (chain_set next i v (get_or next x 0) xs a.1 c.2),
 )
 
 -- the first of a chain above i is above i
@@ -104,8 +104,8 @@ module _ {f : ℕ → ℕ} {n : ℕ} where
   unfolding from
   put_next {i} {first} {next} c few h = record {
     most = omega (arith, c.most);
-    wide = length_set first (f i) i ∙ c.wide;
-    long = length_set next i _ ∙ c.long;
+    wide = length-set first (f i) i ∙ c.wide;
+    long = length-set next i _ ∙ c.long;
     rising = λ k l. rises k l (eqb k i) refl;
     chain = λ j l. subst (λ (m : ℕ). Chain next' (get_or first' j 0) (from (here f j) i m)) more (made j l (eqb (f i) j) refl);
   }
@@ -136,14 +136,14 @@ module _ {f : ℕ → ℕ} {n : ℕ} where
           let q : k ≡ i = eqb-true k i e in
           rw (q, get_or-set_same next i (get_or first (f i) 0) 0 (omega (arith, c.long)))
           (chain_above next i (get_or first (f i) 0) (from (here f (f i)) (suc i) m) low (above (f i)) (c.chain (f i) h))
-      rises k l false e = rw (get_or_set_other next i k (get_or first (f i) 0) 0 (λ q. eqb-false k i e q)) (c.rising k l)
+      rises k l false e = rw (get_or-set_other next i k (get_or first (f i) 0) 0 (λ q. eqb-false k i e q)) (c.rising k l)
 
       made : (j : ℕ) → j < 256 → (b : Bool) → eqb (f i) j ≡ b → Chain next' (get_or first' j 0) (from (here f j) i (suc m))
       made j l true e =
           let q : f i ≡ j = eqb-true (f i) j e in
           rw (e, ← q, get_or-set_same first (f i) i 0 (omega (arith, c.wide)))
           (refl, low, rw (get_or-set_same next i (get_or first (f i) 0) 0 (omega (arith, c.long))) (old (f i) h))
-      made j l false e = rw (e, get_or_set_other first (f i) j i 0 (λ q. eqb-false (f i) j e (sym q))) (old j l)
+      made j l false e = rw (e, get_or-set_other first (f i) j i 0 (λ q. eqb-false (f i) j e (sym q))) (old j l)
 
   pub chained_put : {i : ℕ} {first next : List ℕ} → Chained f n i first next → 0 < i → n ≤ 384 → f (i - 1) < 256
       → Chained f n (i - 1) (set first (f (i - 1)) (i - 1)) (set next (i - 1) (get_or first (f (i - 1)) 0))

@@ -3,8 +3,8 @@ use Prim.Native.Nat.{ℕ, zero, suc, ◌+◌, ◌≤◌, ◌<◌}
 use mathlib.Core.Path.{◌≡◌, refl, sym, ap, ◌∙◌}
 use mathlib.Core.List.{List, [], ◌∷◌, ◌++◌, append-nil, append_assoc}
 use native.Mathlib.Omega.{arith}
-use borrow.Author.Tests.{lt_ltb, le_ltb}
-use lib.ListN.{length, get_or, set, length_append, get_or_append}
+use borrow.Author.Tests.{lt-ltb, le-ltb}
+use lib.ListN.{length, get_or, set, length-append, get_or-append}
 use lib.Seq.{sets, sets-eq}
 use Rattle.tank_links.specs.Chains.{Rising, linked}
 
@@ -20,7 +20,7 @@ sets_last l i xs v n e = ap (λ (m : ℕ). set (sets l i xs) m v) e ∙ sets_app
 
 -- what stands there
 pub sets_at : (l xs : List ℕ) (i : ℕ) → length xs ≤ length l → i < length xs → get_or (sets l 0 xs) i 0 ≡ get_or xs i 0
-sets_at l xs i room h = ap (λ (ys : List ℕ). get_or ys i 0) (sets-eq xs l 0 (omega arith)) ∙ get_or_append xs _ 0 i h
+sets_at l xs i room h = ap (λ (ys : List ℕ). get_or ys i 0) (sets-eq xs l 0 (omega arith)) ∙ get_or-append xs _ 0 i h
 
 -- ---- along a chain: `front` of it is put
 pub record Putting (next links₀ : List ℕ) (first at l place : ℕ) (links : List ℕ) : Type 0 where
@@ -33,12 +33,12 @@ pub record Putting (next links₀ : List ℕ) (first at l place : ℕ) (links : 
 
 linked_one : (n : ℕ) (next : List ℕ) (l : ℕ) → l < 384 → linked (suc n) next l ≡ l ∷ linked n next (get_or next l 0)
 unfolding linked
-linked_one n next l h = rw (lt_ltb l 384 h)
+linked_one n next l h = rw (lt-ltb l 384 h)
 
 linked_none : (n : ℕ) (next : List ℕ) (l : ℕ) → 384 ≤ l → linked n next l ≡ []
 unfolding linked
 linked_none zero next l h = refl
-linked_none (suc n) next l h = rw (le_ltb l 384 h)
+linked_none (suc n) next l h = rw (le-ltb l 384 h)
 
 module _ {next links₀ : List ℕ} {first at : ℕ} where
   pub putting_begun : Putting next links₀ first at first at links₀
@@ -52,7 +52,7 @@ module _ {next links₀ : List ℕ} {first at : ℕ} where
         by : (n : ℕ) → 384 ≤ n + l → p.front ++ linked n next l ≡ linked 384 next first → place < 768
         by zero e w = absurd (omega arith)
         by (suc n) e w =
-            omega (arith, p.to, room, ap length (sym w), length_append p.front (linked (suc n) next l), ap length (linked_one n next l h))
+            omega (arith, p.to, room, ap length (sym w), length-append p.front (linked (suc n) next l), ap length (linked_one n next l h))
 
     pub putting_next : l < 384 → Rising next → Putting next links₀ first at (get_or next l 0) (place + 1) (set links place l)
     putting_next h rising = by p.fuel p.enough p.whole
@@ -67,7 +67,7 @@ module _ {next links₀ : List ℕ} {first at : ℕ} where
               append_assoc p.front (l ∷ []) (linked n next (get_or next l 0))
               ∙ ap (λ (ys : List ℕ). p.front ++ ys) (sym (linked_one n next l h))
               ∙ w;
-          to = omega (arith, p.to, length_append p.front (l ∷ []));
+          to = omega (arith, p.to, length-append p.front (l ∷ []));
           made = ap (λ (xs : List ℕ). set xs place l) p.made ∙ sets_last links₀ at p.front l place p.to;
         }
 

@@ -7,8 +7,8 @@ use mathlib.Core.List.{List}
 use native.Mathlib.Numerals.{add-one}
 use native.Mathlib.Omega.{arith}
 use lib.Dec.{eqb}
-use lib.ListN.{length, get_or, take, drop, length_append, length-drop}
-use lib.Seq.{ext_get_or, get_or_take, get_or-drop, length_take_le}
+use lib.ListN.{length, get_or, take, drop, length-append, length-drop}
+use lib.Seq.{ext_get_or, get_or-take, get_or-drop, length-take-le}
 use Rattle.clock.specs.Demand3.{count_of}
 use Rattle.model.specs.declared.project.Project.{Project}
 use Rattle.model.proofs.Loops.{both_right}
@@ -39,7 +39,7 @@ module _ (p : Project) (begins middles links : List ℕ) (laid : is_laid_out p b
   last = ap (λ (m : ℕ). get_or begins m 0) (add-one k) ∙ (stands p begins middles links laid).first (suc k) h
 
   many : to ≡ from + length own
-  many = omega (arith, first, last, next_begin p k, length_append (links_into p (tank_node p k)) (links_out_of p (tank_node p k)))
+  many = omega (arith, first, last, next_begin p k, length-append (links_into p (tank_node p k)) (links_out_of p (tank_node p k)))
 
   most : to ≤ begin p (tank_count p)
   most = omega (arith, last, grows (λ m. group p (tank_node p m)) (tank_count p) (suc k) h)
@@ -49,12 +49,12 @@ module _ (p : Project) (begins middles links : List ℕ) (laid : is_laid_out p b
   room = omega (arith, most, with_long links (entries_of p) (both_right (begins_with begins (begins_of p) && begins_with middles (middles_of p)) _ laid))
 
   long : length (between from to links) ≡ length own
-  long = length_take_le (to - from) (drop from links) (omega (arith, room, length-drop from links)) ∙ omega (arith, many)
+  long = length-take-le (to - from) (drop from links) (omega (arith, room, length-drop from links)) ∙ omega (arith, many)
 
   same : (i : ℕ) → i < length own → get_or (between from to links) i 0 ≡ get_or own i 0
   unfolding entries_of
   same i l =
-      get_or_take (to - from) (drop from links) i 0 (omega (arith, many))
+      get_or-take (to - from) (drop from links) i 0 (omega (arith, many))
       ∙ get_or-drop from links i 0
       ∙ ap (λ (m : ℕ). get_or links (m + i) 0) first
       ∙ (stands p begins middles links laid).entry (begin p k + i) (omega (arith, many, most, first))

@@ -4,7 +4,7 @@ use mathlib.Core.Path.{◌≡◌, refl, ◌∙◌}
 use mathlib.Core.Bool.{Bool, true, false, cond, ◌&&◌}
 use mathlib.Core.List.{List, [], ◌∷◌}
 use native.Mathlib.Omega.{arith}
-use lib.ListN.{length, take, drop, get_or, length_append, length-drop, length-take}
+use lib.ListN.{length, take, drop, get_or, length-append, length-drop, length-take}
 use lib.Seq.{take_at}
 use Rattle.listing.specs.Listing.{steps_line, refused_line}
 use Rattle.listing.specs.Text.{put, after, pasted}
@@ -55,7 +55,7 @@ module _ (p : Project) (instant : ℕ) (old : List ℕ) where
     where
       go : (a b : Bool) (us : List ℕ)
           → Within (cond a (cond b (Stops (length (take (length old) us))) Unforeseen) (Refused 10)) (fronted (cond (a && b) (take (length old) us) []) old)
-      go true true us = omega (arith, length_append (take (length old) us) (drop (length (take (length old) us)) old))
+      go true true us = omega (arith, length-append (take (length old) us) (drop (length (take (length old) us)) old))
       go true false us = tt
       go false b us = tt
 
@@ -67,7 +67,7 @@ module _ (p : Project) (instant : ℕ) (old : List ℕ) where
       us = take (length old) (stops_of p instant)
 
       go : (b : Bool) → length (fronted (cond b us []) old) ≡ length old
-      go true = omega (arith, length_append us (drop (length us) old), length-drop (length us) old, length-take (length old) (stops_of p instant))
+      go true = omega (arith, length-append us (drop (length us) old), length-drop (length us) old, length-take (length old) (stops_of p instant))
       go false = refl
 
   module _ (count : ℕ) (full : length old ≡ 4096) where

@@ -4,8 +4,8 @@ use mathlib.Core.Path.{◌≡◌, refl, sym, ap, ◌∙◌}
 use mathlib.Core.List.{List, [], ◌∷◌, ◌++◌, append_assoc, append-nil}
 use native.Mathlib.Numerals.{add-one}
 use native.Mathlib.Omega.{arith}
-use lib.ListN.{length, take, get_or, length_append}
-use lib.Seq.{length_take_le, take_all, take-suc}
+use lib.ListN.{length, take, get_or, length-append}
+use lib.Seq.{length-take-le, take_all, take-suc}
 use Rattle.listing.specs.Listing.{number_line}
 use Rattle.listing.specs.Text.{put, after, pasted}
 use Rattle.listing.proofs.Digits.{digits_count}
@@ -20,7 +20,7 @@ number_short n = omega (arith, labelled_length [] n, (digits_count 9 n).1)
 pub lines_short : (us : List ℕ) → length (lines_text us) ≤ length us * 11
 unfolding lines_text
 lines_short [] = omega arith
-lines_short (u ∷ us) = omega (arith, length_append (number_line u) (lines_text us), number_short u, lines_short us)
+lines_short (u ∷ us) = omega (arith, length-append (number_line u) (lines_text us), number_short u, lines_short us)
 
 pub lines_append : (us vs : List ℕ) → lines_text (us ++ vs) ≡ lines_text us ++ lines_text vs
 unfolding lines_text
@@ -53,7 +53,7 @@ module _ {us before : List ℕ} where
     lines_turned {next} {end} room l e q =
         let u = get_or us i 0 in
         let before-end : at + length (number_line u) ≤ length now =
-        omega (arith, lines_same, f.put.place, lines_short (take i us), length_take_le i us f.most, number_short u) in
+        omega (arith, lines_same, f.put.place, lines_short (take i us), length-take-le i us f.most, number_short u) in
         let one = put_fits (number_line u) before-end e q in
         record {
           most = omega arith;

@@ -5,8 +5,8 @@ use mathlib.Core.Path.{◌≡◌, refl, sym, ap, ◌∙◌}
 use mathlib.Core.Bool.{Bool, true, false, cond, true≢false}
 use mathlib.Core.List.{List, [], ◌∷◌, ◌++◌, append_assoc}
 use native.Mathlib.Omega.{arith}
-use lib.ListN.{length, take, length_append, length-take}
-use borrow.Author.Tests.{lt_ltb, eq-eqb}
+use lib.ListN.{length, take, length-append, length-take}
+use borrow.Author.Tests.{lt-ltb, eq-eqb}
 use Rattle.listing.specs.Listing.{Line, steps_line, refused_line}
 use Rattle.listing.proofs.Listing.{line_short}
 use Rattle.clock.specs.Triggers.{Trigger}
@@ -111,7 +111,7 @@ going_given (u ∷ us) t n e = record { some = omega arith; instant = refl; coun
 joined : (all us rest text : List ℕ) (n count : ℕ) → all ≡ us ++ rest → text ≡ lines_text us → count ≡ n + length us
     → text ++ (lines_text rest ++ steps_line (count + length rest)) ≡ lines_text all ++ steps_line (n + length all)
 joined all us rest text n count e q c =
-    let k : count + length rest ≡ n + length all = omega (arith, c, ap length e, length_append us rest) in
+    let k : count + length rest ≡ n + length all = omega (arith, c, ap length e, length-append us rest) in
     rw (q, k) (sym (append_assoc (lines_text us) (lines_text rest) (steps_line (n + length all))))
     ∙ ap (λ (x : List ℕ). x ++ steps_line (n + length all)) (sym (lines_append us rest) ∙ ap lines_text (sym e))
 
@@ -129,7 +129,7 @@ onward p t n few s =
     let early : t < o.duration = omega (arith, h.far, h.most, g.some) in
     let left : t + (o.duration - t) - last_of t (given p t) ≡ o.duration - last_of t (given p t) = omega arith in
     let count : counted n (length (given p t)) ≡ n + length (given p t) =
-    rw (lt_ltb (n + length (given p t)) (2 ^ 32) (omega (arith, h.far, h.most, (tables_fit p s.tables).options.duration))) in
+    rw (lt-ltb (n + length (given p t)) (2 ^ 32) (omega (arith, h.far, h.most, (tables_fit p s.tables).options.duration))) in
     record {
       text = rw (s.tables, s.foreseen, g.instant)
           (joined (stops_of p t) (given p t) (stops_of p (last_of t (given p t))) (given_text (given p t) n) n (given_chunk (given p t) t n).count (h.split ∙ rw left) g.text (g.count ∙ count));

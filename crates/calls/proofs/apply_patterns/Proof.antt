@@ -1,6 +1,6 @@
 -- `calls::apply_patterns` meets its contract. Assumes nothing.
 use mathlib.Core.Path.{sym, ◌∙◌}
-use borrow.Author.Tests.{eq-eqb, ne_eqb, lt_ltb, le_ltb, not-true, not-false}
+use borrow.Author.Tests.{eq-eqb, ne_eqb, lt-ltb, le-ltb, not-true, not-false}
 use Rattle.calls.proofs.Guard.{fit}
 use Rattle.calls.specs.Calls.{judged, patterns}
 use borrow.Author.Rules.{rules}

@@ -1,6 +1,6 @@
 -- `calls::new_with_initial_values` meets its contract. Assumes nothing.
 use mathlib.Core.Path.{sym, ◌∙◌}
-use borrow.Author.Tests.{eq-eqb, ne_eqb, lt_ltb, le_ltb, not-true, not-false}
+use borrow.Author.Tests.{eq-eqb, ne_eqb, lt-ltb, le-ltb, not-true, not-false}
 use Rattle.tables.proofs.Fits.{tables_fit}
 use Rattle.calls.specs.Calls.{start}
 use borrow.Author.Rules.{rules}

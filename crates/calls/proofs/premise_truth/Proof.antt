@@ -1,6 +1,6 @@
 -- `calls::premise_truth` meets its contract. Assumes nothing.
 use mathlib.Core.Path.{sym, ◌∙◌}
-use borrow.Author.Tests.{eq-eqb, ne_eqb, lt_ltb, le_ltb, not-true, not-false}
+use borrow.Author.Tests.{eq-eqb, ne_eqb, lt-ltb, le-ltb, not-true, not-false}
 use Rattle.calls.proofs.Guard.{fit}
 use Rattle.calls.proofs.Premises.{premise_answers}
 use Rattle.calls.specs.Calls.{premise}
@@ -17,14 +17,14 @@ returns c = premise_answers _ _ _ (rw (← c.before.in_order.ensures, not-true c
 
 returns-2 : tie.Need-returns-2
 unfolding premise
-returns-2 c = premise_answers _ _ _ (rw (← c.before.before.before.in_order.ensures, not-false c.before.before.before.in_order.result c.before.before.if1.false, le_ltb _ _ c.if2.true))
+returns-2 c = premise_answers _ _ _ (rw (← c.before.before.before.in_order.ensures, not-false c.before.before.before.in_order.result c.before.before.if1.false, le-ltb _ _ c.if2.true))
 
 premise-truth-at-requires : tie.Need-premise-truth-at-requires
 premise-truth-at-requires c κs = (fit c.before.before.before.before.args.p c.before.before.before.before.args.s (sym c.before.before.before.in_order.ensures ∙ not-false c.before.before.before.in_order.result c.before.before.if1.false), c.if2.false)
 
 returns-3 : tie.Need-returns-3
 unfolding premise
-returns-3 c = premise_answers _ _ _ (rw (← c.before.before.before.before.in_order.ensures, not-false c.before.before.before.before.in_order.result c.before.before.before.if1.false, lt_ltb _ _ c.before.if2.false, c.premise-truth-at.ensures))
+returns-3 c = premise_answers _ _ _ (rw (← c.before.before.before.before.in_order.ensures, not-false c.before.before.before.before.in_order.result c.before.before.before.if1.false, lt-ltb _ _ c.before.if2.false, c.premise-truth-at.ensures))
 
 pub premise-truth-spec : {M : Type 1} → statement M
 premise-truth-spec =

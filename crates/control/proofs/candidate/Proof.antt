@@ -15,17 +15,11 @@ enum-known-condition c = search rules
 level-time-requires : tie.Need-level-time-requires
 level-time-requires c κs = search rules
 
-seconds-of-requires : tie.Need-seconds-of-requires
-seconds-of-requires c κs = search rules
-
 enum-known-condition-2 : tie.Need-enum-known-condition-2
 enum-known-condition-2 c = search rules
 
 level-time-requires-2 : tie.Need-level-time-requires-2
 level-time-requires-2 c κs = search rules
-
-seconds-of-requires-2 : tie.Need-seconds-of-requires-2
-seconds-of-requires-2 c κs = search rules
 
 enum-known-condition-3 : tie.Need-enum-known-condition-3
 enum-known-condition-3 c = search rules
@@ -46,10 +40,10 @@ returns-2 : tie.Need-returns-2
 returns-2 c = search rules
 
 returns-3 : tie.Need-returns-3
-returns-3 c = rw (c.before.before.before.condition.given.1, ← c.before.level-time.ensures.0) c.seconds-of.ensures
+returns-3 c = rw c.before.before.condition.given.1 c.level-time.ensures
 
 returns-4 : tie.Need-returns-4
-returns-4 c = rw (c.before.before.before.condition2.given.1, ← c.before.level-time2.ensures.0) c.seconds-of2.ensures
+returns-4 c = rw c.before.before.condition2.given.1 c.level-time2.ensures
 
 returns-5 : tie.Need-returns-5
 returns-5 c = rw c.before.before.condition3.given.1 c.time-candidate.ensures
@@ -65,10 +59,8 @@ candidate-spec =
     enum-told-2
     enum-known-condition
     level-time-requires
-    seconds-of-requires
     enum-known-condition-2
     level-time-requires-2
-    seconds-of-requires-2
     enum-known-condition-3
     time-candidate-requires
     enum-known-condition-4

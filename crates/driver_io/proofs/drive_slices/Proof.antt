@@ -1,7 +1,7 @@
 -- `driver_io::drive_slices` meets its contract: of an image that is accepted the tables are laid out, and the start is in order. Assumes nothing.
 use mathlib.Core.Path.{sym, ◌∙◌}
 use native.Mathlib.Omega.{arith}
-use lib.Seq.{length_take_le}
+use lib.Seq.{length-take-le}
 use Rattle.listing.specs.Listing.{header}
 use Rattle.listing.proofs.Pasting.{after_in}
 use Rattle.driver_io.proofs.Opened.{few, parts_inside, run_of}
@@ -37,7 +37,7 @@ slice-reshare-prefix-write-all : tie.Need-slice-reshare-prefix-write-all
 slice-reshare-prefix-write-all c = let e = c.before.before.put-header in omega (arith, e.auto.0, after_in c.before.before.before.before.before.before.before.before.before.before.before.before.before.before.before.args.out.now 0 header (search rules) e.ensures.0)
 
 slice-aggregate-write-all : tie.Need-slice-aggregate-write-all
-slice-aggregate-write-all c = sym (length_take_le _ _ (let e = c.before.before.before.put-header in omega (arith, e.auto.0, after_in c.before.before.before.before.before.before.before.before.before.before.before.before.before.before.before.before.args.out.now 0 header (search rules) e.ensures.0)))
+slice-aggregate-write-all c = sym (length-take-le _ _ (let e = c.before.before.before.put-header in omega (arith, e.auto.0, after_in c.before.before.before.before.before.before.before.before.before.before.before.before.before.before.before.before.args.out.now 0 header (search rules) e.ensures.0)))
 
 write-all-requires : tie.Need-write-all-requires
 write-all-requires c κs = search rules

@@ -1,8 +1,8 @@
 -- `driver_io::open_image` meets its contract: an image without a fault is accepted. Assumes nothing.
 use mathlib.Core.Path.{sym, ◌∙◌}
 use native.Mathlib.Omega.{arith}
-use lib.ListN.{length_append}
-use lib.Seq.{length_take_le, length_front}
+use lib.ListN.{length-append}
+use lib.Seq.{length-take-le, length_front}
 use Rattle.driver_io.proofs.Opened.{opened}
 use borrow.Author.Rules.{rules}
 use Rattle.driver_io.proofs.open_image.Statement.{statement}
@@ -15,16 +15,16 @@ slice-relend-prefix-read-full : tie.Need-slice-relend-prefix-read-full
 slice-relend-prefix-read-full c = search rules
 
 slice-aggregate-read-full : tie.Need-slice-aggregate-read-full
-slice-aggregate-read-full c = sym (length_take_le 4 c.before.before.before.args.buf.now (search rules))
+slice-aggregate-read-full c = sym (length-take-le 4 c.before.before.before.args.buf.now (search rules))
 
 read-full-requires : tie.Need-read-full-requires
 read-full-requires c κs = search rules
 
 slice-reshare-prefix-image-words : tie.Need-slice-reshare-prefix-image-words
-slice-reshare-prefix-image-words c = simp length_append (omega (arith, c.before.before.read-full.ensures.0))
+slice-reshare-prefix-image-words c = simp length-append (omega (arith, c.before.before.read-full.ensures.0))
 
 slice-aggregate-image-words : tie.Need-slice-aggregate-image-words
-slice-aggregate-image-words c = sym (length_take_le _ _ (simp length_append (omega (arith, c.before.before.before.read-full.ensures.0))))
+slice-aggregate-image-words c = sym (length-take-le _ _ (simp length-append (omega (arith, c.before.before.before.read-full.ensures.0))))
 
 image-words-requires : tie.Need-image-words-requires
 image-words-requires c κs = search rules
@@ -39,7 +39,7 @@ array-share-prefix-words : tie.Need-array-share-prefix-words
 array-share-prefix-words c = search rules
 
 slice-aggregate-decode-into : tie.Need-slice-aggregate-decode-into
-slice-aggregate-decode-into c = sym (length_take_le _ _ (search rules))
+slice-aggregate-decode-into c = sym (length-take-le _ _ (search rules))
 
 decode-into-requires : tie.Need-decode-into-requires
 decode-into-requires c κs = search rules

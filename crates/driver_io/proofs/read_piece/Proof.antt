@@ -1,6 +1,6 @@
 -- `driver_io::read_piece` meets its contract. Assumes nothing.
 use mathlib.Core.Path.{sym}
-use lib.Seq.{length_take_le}
+use lib.Seq.{length-take-le}
 use borrow.Author.Rules.{rules}
 use Rattle.driver_io.proofs.read_piece.Statement.{statement}
 use Rattle.driver_io.proofs.read_piece.Tie as tie
@@ -15,7 +15,7 @@ slice-relend-prefix-read-full : tie.Need-slice-relend-prefix-read-full
 slice-relend-prefix-read-full c = search rules
 
 slice-aggregate-read-full : tie.Need-slice-aggregate-read-full
-slice-aggregate-read-full c = sym (length_take_le _ _ (search rules))
+slice-aggregate-read-full c = sym (length-take-le _ _ (search rules))
 
 read-full-requires : tie.Need-read-full-requires
 read-full-requires c κs = search rules
@@ -30,7 +30,7 @@ slice-reshare-prefix-words-of : tie.Need-slice-reshare-prefix-words-of
 slice-reshare-prefix-words-of c = search rules
 
 slice-aggregate-words-of : tie.Need-slice-aggregate-words-of
-slice-aggregate-words-of c = sym (length_take_le _ _ (search rules))
+slice-aggregate-words-of c = sym (length-take-le _ _ (search rules))
 
 words-of-requires : tie.Need-words-of-requires
 words-of-requires c κs = search rules

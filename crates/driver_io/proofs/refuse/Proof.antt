@@ -1,6 +1,6 @@
 -- `driver_io::refuse` meets its contract. Assumes nothing.
 use mathlib.Core.Path.{sym}
-use lib.Seq.{length_take_le}
+use lib.Seq.{length-take-le}
 use Rattle.listing.specs.Listing.{refused_line}
 use Rattle.listing.proofs.Pasting.{after_in}
 use borrow.Author.Rules.{rules}
@@ -15,7 +15,7 @@ slice-reshare-prefix-write-all : tie.Need-slice-reshare-prefix-write-all
 slice-reshare-prefix-write-all c = let e = c.before.before.put-refused-line in omega (arith, e.auto.0, after_in c.before.before.before.before.before.args.out.now 0 (refused_line c.before.before.before.before.before.args.n) (search rules) e.ensures.0)
 
 slice-aggregate-write-all : tie.Need-slice-aggregate-write-all
-slice-aggregate-write-all c = sym (length_take_le _ _ (let e = c.before.before.before.put-refused-line in omega (arith, e.auto.0, after_in c.before.before.before.before.before.before.args.out.now 0 (refused_line c.before.before.before.before.before.before.args.n) (search rules) e.ensures.0)))
+slice-aggregate-write-all c = sym (length-take-le _ _ (let e = c.before.before.before.put-refused-line in omega (arith, e.auto.0, after_in c.before.before.before.before.before.before.args.out.now 0 (refused_line c.before.before.before.before.before.before.args.n) (search rules) e.ensures.0)))
 
 write-all-requires : tie.Need-write-all-requires
 write-all-requires c κs = search rules

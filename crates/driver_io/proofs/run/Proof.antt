@@ -2,7 +2,7 @@
 use mathlib.Core.Path.{refl, sym, ◌∙◌}
 use mathlib.Core.Logic.{inl, inr, ⊎_elim}
 use borrow.Author.Tests.{not-true}
-use lib.Seq.{length_take_le}
+use lib.Seq.{length-take-le}
 use borrow.Author.Rules.{rules}
 use native.Mathlib.Omega.{arith}
 use Rattle.driver_chunk.specs.Chunks.{RunOf}
@@ -39,7 +39,7 @@ slice-reshare-prefix-write-all : tie.Need-slice-reshare-prefix-write-all invaria
 slice-reshare-prefix-write-all c = omega (arith, (ran_by c.before.before.before.before.before.before.before.before.before.before.before.loop.invariant.0 c.before.before.advance.ensures).room, c.before.before.advance.auto.1.1.1.1.1.0)
 
 slice-aggregate-write-all : tie.Need-slice-aggregate-write-all invariant-loop decreases-loop
-slice-aggregate-write-all c = sym (length_take_le _ _ (omega (arith, (ran_by c.before.before.before.before.before.before.before.before.before.before.before.before.loop.invariant.0 c.before.before.before.advance.ensures).room, c.before.before.before.advance.auto.1.1.1.1.1.0)))
+slice-aggregate-write-all c = sym (length-take-le _ _ (omega (arith, (ran_by c.before.before.before.before.before.before.before.before.before.before.before.before.loop.invariant.0 c.before.before.before.advance.ensures).room, c.before.before.before.advance.auto.1.1.1.1.1.0)))
 
 write-all-requires : tie.Need-write-all-requires invariant-loop decreases-loop
 write-all-requires c κs = search rules

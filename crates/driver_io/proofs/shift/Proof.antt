@@ -3,7 +3,7 @@ use Prim.Native.Nat.{◌+◌, ◌-◌, ◌≤◌}
 use mathlib.Core.Path.{◌≡◌, refl}
 use mathlib.Core.List.{◌++◌}
 use borrow.Author.Rules.{rules}
-use lib.ListN.{length, take, drop, length_set}
+use lib.ListN.{length, take, drop, length-set}
 use Rattle.driver_io.proofs.Shifting.{shifted_more}
 use Rattle.driver_io.proofs.shift.Statement.{statement}
 use Rattle.driver_io.proofs.shift.Tie as tie
@@ -36,7 +36,7 @@ loop-less : tie.Need-loop-smaller invariant-loop decreases-loop
 loop-less c = search rules
 
 loop-again : tie.Need-loop-preserved invariant-loop decreases-loop
-loop-again c = let l = c.before.before.loop in let a = c.before.before.before.args in (search rules, simp length_set l.invariant.1, rw l.invariant.2 (shifted_more a.buf.now a.from l.i (search rules)))
+loop-again c = let l = c.before.before.loop in let a = c.before.before.before.args in (search rules, simp length-set l.invariant.1, rw l.invariant.2 (shifted_more a.buf.now a.from l.i (search rules)))
 
 same_length : tie.Need-same-length invariant-loop decreases-loop
 same_length c = search rules

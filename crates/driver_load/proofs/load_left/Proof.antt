@@ -1,6 +1,6 @@
 -- `driver_load::load_left` meets its contract: the words are lent, filled and read. Assumes nothing.
 use mathlib.Core.Path.{sym}
-use lib.Seq.{length_take_le}
+use lib.Seq.{length-take-le}
 use Rattle.words.proofs.Filling.{lent_words, lent_room}
 use Rattle.driver_load.specs.Left.{none, cut, whole}
 use Rattle.driver_load.proofs.Taken.{judged_as}
@@ -30,7 +30,7 @@ array-borrow-prefix-words : tie.Need-array-borrow-prefix-words
 array-borrow-prefix-words c = search rules
 
 slice-aggregate-words-of : tie.Need-slice-aggregate-words-of
-slice-aggregate-words-of c = sym (length_take_le _ _ (search rules))
+slice-aggregate-words-of c = sym (length-take-le _ _ (search rules))
 
 words-of-requires : tie.Need-words-of-requires
 words-of-requires c κs = search rules
@@ -39,7 +39,7 @@ array-share-prefix-words : tie.Need-array-share-prefix-words
 array-share-prefix-words c = lent_room _ c.before.before.before.space.result c.before.words_of.new.1.0 (search rules) c.before.words_of.auto.1.0
 
 slice-aggregate-take-words : tie.Need-slice-aggregate-take-words
-slice-aggregate-take-words c = sym (length_take_le _ _ (lent_room _ c.before.before.before.before.space.result c.before.before.words_of.new.1.0 (search rules) c.before.before.words_of.auto.1.0))
+slice-aggregate-take-words c = sym (length-take-le _ _ (lent_room _ c.before.before.before.before.space.result c.before.before.words_of.new.1.0 (search rules) c.before.before.words_of.auto.1.0))
 
 take-words-requires : tie.Need-take-words-requires
 take-words-requires c κs = search rules

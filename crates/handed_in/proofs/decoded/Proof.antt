@@ -1,7 +1,7 @@
 -- `handed_in::decoded` meets its contract. Assumes nothing.
 use mathlib.Core.Path.{sym}
 use native.Mathlib.Omega.{arith}
-use lib.Seq.{length_take_le}
+use lib.Seq.{length-take-le}
 use borrow.Author.Rules.{rules}
 use Rattle.handed_in.proofs.decoded.Statement.{statement}
 use Rattle.handed_in.proofs.decoded.Tie as tie
@@ -13,7 +13,7 @@ returns : tie.Need-returns
 returns c = search rules
 
 slice-aggregate-words-of : tie.Need-slice-aggregate-words-of
-slice-aggregate-words-of c = sym (length_take_le c.before.before.before.before.args.n c.before.before.before.before.args.bytes.now (omega arith))
+slice-aggregate-words-of c = sym (length-take-le c.before.before.before.before.args.n c.before.before.before.before.args.bytes.now (omega arith))
 
 words-of-requires : tie.Need-words-of-requires
 words-of-requires c κs = search rules

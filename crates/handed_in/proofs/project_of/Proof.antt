@@ -1,7 +1,7 @@
 -- `handed_in::project_of` meets its contract. Assumes nothing.
 use mathlib.Core.Path.{sym}
 use native.Mathlib.Omega.{arith}
-use lib.Seq.{length_take_le}
+use lib.Seq.{length-take-le}
 use borrow.Author.Rules.{rules}
 use Rattle.handed_in.proofs.project_of.Statement.{statement}
 use Rattle.handed_in.proofs.project_of.Tie as tie
@@ -13,7 +13,7 @@ returns : tie.Need-returns
 returns c = search rules
 
 slice-aggregate-decode : tie.Need-slice-aggregate-decode
-slice-aggregate-decode c = sym (length_take_le c.before.before.before.args.k c.before.before.before.args.table.now (omega arith))
+slice-aggregate-decode c = sym (length-take-le c.before.before.before.args.k c.before.before.before.args.table.now (omega arith))
 
 decode-requires : tie.Need-decode-requires
 decode-requires c κs = search rules

@@ -1,6 +1,6 @@
 -- `image_node::demands_of` meets its contract. Each answer by the tests of the size, and by its demands. Assumes nothing.
 use Rattle.image_node.specs.Entries.{demands_of}
-use borrow.Author.Tests.{lt_ltb, le_ltb}
+use borrow.Author.Tests.{lt-ltb, le-ltb}
 use lib.ListN.{length}
 use borrow.Author.Rules.{rules}
 use Rattle.image_node.proofs.demands_of.Statement.{statement}
@@ -10,7 +10,7 @@ returns : tie.Need-returns
 unfolding demands_of
 returns c =
     let n = length c.before.before.args.p.now in
-    rw (lt_ltb n 6 c.if1.true)
+    rw (lt-ltb n 6 c.if1.true)
 
 demand-of-requires : tie.Need-demand-of-requires
 demand-of-requires c κs = search rules
@@ -19,7 +19,7 @@ returns-2 : tie.Need-returns-2
 unfolding demands_of
 returns-2 c =
     let n = length c.before.before.before.before.args.p.now in
-    rw (le_ltb n 6 c.before.before.if1.false, lt_ltb n 9 c.if2.true, c.before.demand-of.ensures)
+    rw (le-ltb n 6 c.before.before.if1.false, lt-ltb n 9 c.if2.true, c.before.demand-of.ensures)
 
 demand-of-requires-2 : tie.Need-demand-of-requires-2
 demand-of-requires-2 c κs = search rules
@@ -29,9 +29,9 @@ unfolding demands_of
 returns-3 c =
     let n = length c.before.before.before.before.before.before.args.p.now in
     rw (
-      le_ltb n 6 c.before.before.before.before.if1.false,
-      le_ltb n 9 c.before.before.if2.false,
-      lt_ltb n 12 c.if3.true,
+      le-ltb n 6 c.before.before.before.before.if1.false,
+      le-ltb n 9 c.before.before.if2.false,
+      lt-ltb n 12 c.if3.true,
       c.before.before.before.demand-of.ensures,
       c.before.demand-of2.ensures,
     )
@@ -44,10 +44,10 @@ unfolding demands_of
 returns-4 c =
     let n = length c.before.before.before.before.before.before.before.before.args.p.now in
     rw (
-      le_ltb n 6 c.before.before.before.before.before.before.if1.false,
-      le_ltb n 9 c.before.before.before.before.if2.false,
-      le_ltb n 12 c.before.before.if3.false,
-      lt_ltb n 15 c.if4.true,
+      le-ltb n 6 c.before.before.before.before.before.before.if1.false,
+      le-ltb n 9 c.before.before.before.before.if2.false,
+      le-ltb n 12 c.before.before.if3.false,
+      lt-ltb n 15 c.if4.true,
       c.before.before.before.before.before.demand-of.ensures,
       c.before.before.before.demand-of2.ensures,
       c.before.demand-of3.ensures,
@@ -61,10 +61,10 @@ unfolding demands_of
 returns-5 c =
     let n = length c.before.before.before.before.before.before.before.before.before.args.p.now in
     rw (
-      le_ltb n 6 c.before.before.before.before.before.before.before.if1.false,
-      le_ltb n 9 c.before.before.before.before.before.if2.false,
-      le_ltb n 12 c.before.before.before.if3.false,
-      le_ltb n 15 c.before.if4.false,
+      le-ltb n 6 c.before.before.before.before.before.before.before.if1.false,
+      le-ltb n 9 c.before.before.before.before.before.if2.false,
+      le-ltb n 12 c.before.before.before.if3.false,
+      le-ltb n 15 c.before.if4.false,
       c.before.before.before.before.before.before.demand-of.ensures,
       c.before.before.before.before.demand-of2.ensures,
       c.before.before.demand-of3.ensures,

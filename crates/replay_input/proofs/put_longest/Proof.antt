@@ -1,6 +1,6 @@
 -- `replay_input::put_longest` meets its contract. Assumes nothing.
 use native.Mathlib.Omega.{arith}
-use lib.ListN.{length_set}
+use lib.ListN.{length-set}
 use borrow.Author.Rules.{rules}
 use Rattle.replay_input.proofs.put_longest.Statement.{statement}
 use Rattle.replay_input.proofs.put_longest.Tie as tie
@@ -18,10 +18,10 @@ cast-bytes-2 : tie.Need-overflow-cast-bytes-2
 cast-bytes-2 c = search rules
 
 slice-write-bytes-2 : tie.Need-slice-write-bytes-2
-slice-write-bytes-2 c = rw (length_set _ _ _) (omega arith)
+slice-write-bytes-2 c = rw (length-set _ _ _) (omega arith)
 
 slice-write-bytes-3 : tie.Need-slice-write-bytes-3
-slice-write-bytes-3 c = rw (length_set _ _ _, length_set _ _ _) (omega arith)
+slice-write-bytes-3 c = rw (length-set _ _ _, length-set _ _ _) (omega arith)
 
 slice-write-bytes-4 : tie.Need-slice-write-bytes-4
 slice-write-bytes-4 c = search rules

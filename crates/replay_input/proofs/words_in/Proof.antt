@@ -1,7 +1,7 @@
 -- `replay_input::words_in` meets its contract. Assumes nothing.
 use mathlib.Core.Path.{sym}
 use native.Mathlib.Omega.{arith}
-use lib.Seq.{length_take_le}
+use lib.Seq.{length-take-le}
 use Rattle.replay_input.proofs.Taking.{taken_none, taken_from}
 use borrow.Author.Rules.{rules}
 use Rattle.replay_input.proofs.words_in.Statement.{statement}
@@ -14,7 +14,7 @@ mul-size : tie.Need-overflow-mul-size
 mul-size c = search rules
 
 slice-aggregate-words-of : tie.Need-slice-aggregate-words-of
-slice-aggregate-words-of c = sym (length_take_le _ c.before.before.before.before.args.bytes.now (omega arith))
+slice-aggregate-words-of c = sym (length-take-le _ c.before.before.before.before.args.bytes.now (omega arith))
 
 words-of-requires : tie.Need-words-of-requires
 words-of-requires c κs = search rules

@@ -1,7 +1,7 @@
 -- `stops_asked::ask` meets its contract. Assumes nothing.
 use mathlib.Core.Path.{sym}
 use native.Mathlib.Omega.{arith}
-use lib.Seq.{length_take_le}
+use lib.Seq.{length-take-le}
 use borrow.Author.Rules.{rules}
 use Rattle.stops_asked.proofs.ask.Statement.{statement}
 use Rattle.stops_asked.proofs.ask.Tie as tie
@@ -22,7 +22,7 @@ array-borrow-prefix-list : tie.Need-array-borrow-prefix-list
 array-borrow-prefix-list c = search rules
 
 slice-aggregate-next-stops : tie.Need-slice-aggregate-next-stops
-slice-aggregate-next-stops c = sym (length_take_le c.before.before.before.before.before.before.args.room _ (omega (arith, c.before.if1.true)))
+slice-aggregate-next-stops c = sym (length-take-le c.before.before.before.before.before.before.args.room _ (omega (arith, c.before.if1.true)))
 
 next-stops-requires : tie.Need-next-stops-requires
 next-stops-requires c κs = search rules

@@ -3,7 +3,7 @@ use Prim.Native.Nat.{◌≤◌}
 use mathlib.Core.Path.{sym, ◌∙◌, subst}
 use native.Mathlib.Omega.{arith}
 use lib.ListN.{length, length-take}
-use lib.Seq.{length_take_le}
+use lib.Seq.{length-take-le}
 use Rattle.listing.specs.Listing.{Line, refused_line}
 use Rattle.listing.proofs.Listing.{line_short}
 use Rattle.stops_ahead.specs.declared.next.StopsAnswer.{StopsAnswer}
@@ -24,7 +24,7 @@ enum-known-answer : tie.Need-enum-known-answer
 enum-known-answer c = search rules
 
 slice-aggregate-put-given : tie.Need-slice-aggregate-put-given
-slice-aggregate-put-given c = sym (length_take_le c.before.before.answer.given.0.0 c.before.before.before.before.before.before.args.instants.now (inside c.before))
+slice-aggregate-put-given c = sym (length-take-le c.before.before.answer.given.0.0 c.before.before.before.before.before.before.args.instants.now (inside c.before))
 
 put-given-requires : tie.Need-put-given-requires
 put-given-requires c κs =

@@ -2,7 +2,7 @@
 use Prim.Native.Nat.{◌-◌}
 use native.Mathlib.Omega.{arith}
 use borrow.Author.Rules.{rules}
-use lib.ListN.{length_set}
+use lib.ListN.{length-set}
 use Rattle.listing.proofs.Digits.{Spelled, spelled_begun, spelled_more, spelled_ended, spelled_last}
 use Rattle.listing.proofs.decimal.spell.Statement.{statement}
 use Rattle.listing.proofs.decimal.spell.Tie as tie
@@ -49,7 +49,7 @@ slice-write-buf-2 : tie.Need-slice-write-buf-2 invariant-loop decreases-loop
 slice-write-buf-2 c = let v = c.before.loop.invariant in omega (arith, v.written.same, v.written.place, spelled_last c.before.before.requires.0 v)
 
 same_length : tie.Need-same-length invariant-loop decreases-loop
-same_length c = simp length_set c.before.loop.invariant.written.same
+same_length c = simp length-set c.before.loop.invariant.written.same
 
 returns : tie.Need-returns invariant-loop decreases-loop
 returns c = (omega arith, spelled_ended c.before.before.requires.0 c.before.before.requires.1 c.loop-test.false c.before.loop.invariant)

@@ -1,5 +1,5 @@
 -- `listing::hexadecimal::hex_digit` meets its contract. Assumes nothing.
-use borrow.Author.Tests.{lt_ltb, le_ltb}
+use borrow.Author.Tests.{lt-ltb, le-ltb}
 use borrow.Author.Rules.{rules}
 use Rattle.listing.specs.Numbers.{hex_digit}
 use Rattle.listing.proofs.hexadecimal.hex_digit.Statement.{statement}
@@ -13,7 +13,7 @@ add-result c = search rules
 
 returns : tie.Need-returns
 unfolding hex_digit
-returns c = rw (lt_ltb _ _ c.if1.true)
+returns c = rw (lt-ltb _ _ c.if1.true)
 
 cast-result-2 : tie.Need-overflow-cast-result-2
 cast-result-2 c = search rules
@@ -23,7 +23,7 @@ add-result-2 c = search rules
 
 returns-2 : tie.Need-returns-2
 unfolding hex_digit
-returns-2 c = rw (le_ltb _ _ c.if1.false)
+returns-2 c = rw (le-ltb _ _ c.if1.false)
 
 pub hex-digit-spec : {M : Type 1} → statement M
 hex-digit-spec =

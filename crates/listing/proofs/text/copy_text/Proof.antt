@@ -4,7 +4,7 @@ use mathlib.Core.Path.{◌≡◌, refl}
 use mathlib.Core.List.{[], ◌∷◌}
 use native.Mathlib.Numerals.{add-one}
 use borrow.Author.Rules.{rules}
-use lib.ListN.{length, take, get_or, length_set}
+use lib.ListN.{length, take, get_or, length-set}
 use lib.Seq.{take-suc, take_all}
 use Rattle.listing.proofs.Pasting.{Put, put_begun, put_then, put_as, pasted_byte}
 use Rattle.listing.proofs.text.copy_text.Statement.{statement}
@@ -40,7 +40,7 @@ loop-again c =
     let text = c.before.before.before.args.text.now in
     let n : l.o < length l.buf = search rules in
     let p = put_then l.invariant.1 (get_or text l.i 0 ∷ []) (pasted_byte l.buf l.o (get_or text l.i 0) n) refl (search rules) in
-    (search rules, put_as (rw (add-one, take-suc text l.i 0 c.before.loop-test.true)) p, simp length_set l.invariant.2, search rules)
+    (search rules, put_as (rw (add-one, take-suc text l.i 0 c.before.loop-test.true)) p, simp length-set l.invariant.2, search rules)
 
 same_length : tie.Need-same-length invariant-loop decreases-loop
 same_length c = search rules

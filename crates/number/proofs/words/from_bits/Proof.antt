@@ -1,4 +1,4 @@
-use Rattle.std.proofs.Common.{◌≡◌, Bool, true, false, not, T, sym, refl, ◌∙◌, subst, rules, le_ltb, lt_ltb}
+use Rattle.std.proofs.Common.{◌≡◌, Bool, true, false, not, T, sym, refl, ◌∙◌, subst, rules, le-ltb, lt-ltb}
 use lib.Ieee.{Float, nan, inf, fin, is_nan, div, of_bits, binary64}
 use lib.Ieee.Bits.{nan_bits_is, nan_bits_above}
 use Rattle.number.proofs.words.from_bits.Statement.{statement}
@@ -17,12 +17,12 @@ nan_made = refl
 returns : tie.Need-returns
 returns c =
     let b = c.before.args.bits in
-    nan_made ∙ sym (is_nan (of_bits binary64 b) (sym (nan_bits_is binary64 b) ∙ (nan_bits_above binary64 b ∙ lt_ltb _ _ c.if1.true)))
+    nan_made ∙ sym (is_nan (of_bits binary64 b) (sym (nan_bits_is binary64 b) ∙ (nan_bits_above binary64 b ∙ lt-ltb _ _ c.if1.true)))
 
 float-from-bits-result : tie.Need-float-from-bits-result
 float-from-bits-result c =
     let b = c.before.args.bits in
-    subst (λ (t : Bool). T (not t)) (sym (nan_bits_above binary64 b ∙ le_ltb _ _ c.if1.false)) tt
+    subst (λ (t : Bool). T (not t)) (sym (nan_bits_above binary64 b ∙ le-ltb _ _ c.if1.false)) tt
 
 returns-2 : tie.Need-returns-2
 returns-2 c = search rules

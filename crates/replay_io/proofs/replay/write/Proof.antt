@@ -1,13 +1,13 @@
 -- `replay_io::replay::write` meets its contract. Assumes nothing.
 use mathlib.Core.Path.{sym}
 use native.Mathlib.Omega.{arith}
-use lib.Seq.{length_take_le}
+use lib.Seq.{length-take-le}
 use borrow.Author.Rules.{rules}
 use Rattle.replay_io.proofs.replay.write.Statement.{statement}
 use Rattle.replay_io.proofs.replay.write.Tie as tie
 
 slice-aggregate-write-all : tie.Need-slice-aggregate-write-all
-slice-aggregate-write-all c = sym (length_take_le c.before.before.before.args.n c.before.before.before.args.out.now (omega arith))
+slice-aggregate-write-all c = sym (length-take-le c.before.before.before.args.n c.before.before.before.args.out.now (omega arith))
 
 write-all-requires : tie.Need-write-all-requires
 write-all-requires c κs = search rules

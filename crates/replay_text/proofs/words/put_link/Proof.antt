@@ -1,6 +1,6 @@
 -- `replay_text::words::put_link` meets its contract: its three words are put one behind the other. Assumes nothing.
 use native.Mathlib.Omega.{arith}
-use lib.ListN.{length_append}
+use lib.ListN.{length-append}
 use mathlib.Core.List.{◌++◌}
 use Rattle.replay_text.specs.Lines.{word_text, number_text, link_text}
 use Rattle.replay_text.proofs.Pieces.{both, word_length, number_length}
@@ -32,7 +32,7 @@ returns c =
     let f = number_length x.setting in
     let a = c.before.before.before.before.before.before.before.before.before.before.before.before.before.before.args in
     let two = both a.out.now a.at (number_text x.flow) (word_text x.status) (omega (arith, c.before.before.before.before.before.before.before.before.before.before.before.before.before.before.requires, h, d)) c.before.before.before.before.before.before.before.before.before.before.before.put-number.ensures c.before.before.before.before.before.before.put_word.ensures in
-    both a.out.now a.at (number_text x.flow ++ word_text x.status) (number_text x.setting) (omega (arith, c.before.before.before.before.before.before.before.before.before.before.before.before.before.before.requires, h, d, f, length_append (number_text x.flow) (word_text x.status))) two c.before.before.put-number2.ensures
+    both a.out.now a.at (number_text x.flow ++ word_text x.status) (number_text x.setting) (omega (arith, c.before.before.before.before.before.before.before.before.before.before.before.before.before.before.requires, h, d, f, length-append (number_text x.flow) (word_text x.status))) two c.before.before.put-number2.ensures
 
 pub put-link-spec : {M : Type 1} → statement M
 put-link-spec =

@@ -1,6 +1,6 @@
 -- `replay_text::words::put_node` meets its contract: its three numbers are put one behind the other. Assumes nothing.
 use native.Mathlib.Omega.{arith}
-use lib.ListN.{length_append}
+use lib.ListN.{length-append}
 use mathlib.Core.List.{◌++◌}
 use Rattle.replay_text.specs.Lines.{number_text, node_text}
 use Rattle.replay_text.proofs.Pieces.{both, number_length}
@@ -29,7 +29,7 @@ returns c =
     let f = number_length x.demand_flow in
     let a = c.before.before.before.before.before.before.before.before.before.before.before.before.before.args in
     let two = both a.out.now a.at (number_text x.head) (number_text x.demand) (omega (arith, c.before.before.before.before.before.before.before.before.before.before.before.before.before.requires, h, d)) c.before.before.before.before.before.before.before.before.before.before.put-number.ensures c.before.before.before.before.before.before.put-number2.ensures in
-    both a.out.now a.at (number_text x.head ++ number_text x.demand) (number_text x.demand_flow) (omega (arith, c.before.before.before.before.before.before.before.before.before.before.before.before.before.requires, h, d, f, length_append (number_text x.head) (number_text x.demand))) two c.before.before.put-number3.ensures
+    both a.out.now a.at (number_text x.head ++ number_text x.demand) (number_text x.demand_flow) (omega (arith, c.before.before.before.before.before.before.before.before.before.before.before.before.before.requires, h, d, f, length-append (number_text x.head) (number_text x.demand))) two c.before.before.put-number3.ensures
 
 pub put-node-spec : {M : Type 1} → statement M
 put-node-spec =

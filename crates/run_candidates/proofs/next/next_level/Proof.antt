@@ -59,9 +59,6 @@ element-copy-out-demand c = omega (arith, (c.before.before.before.before.before.
 time-to-reach-level-requires : tie.Need-time-to-reach-level-requires invariant-loop decreases-loop
 time-to-reach-level-requires c κs = tt
 
-seconds-of-requires : tie.Need-seconds-of-requires invariant-loop decreases-loop
-seconds-of-requires c κs = tt
-
 smaller-positive-requires : tie.Need-smaller-positive-requires invariant-loop decreases-loop
 smaller-positive-requires c κs = tt
 
@@ -72,7 +69,7 @@ loop-less : tie.Need-loop-smaller invariant-loop decreases-loop
 loop-less c = search rules
 
 loop-again : tie.Need-loop-preserved invariant-loop decreases-loop
-loop-again c = turned c.before.before.before.before.before.before.before.before.before.before.before.loop.invariant (search rules) (rw (c.smaller-positive.ensures, c.before.seconds-of.ensures, c.before.before.time-to-reach-level.ensures.0, c.before.before.before.before.before.before.before.tank-at.ensures))
+loop-again c = turned c.before.before.before.before.before.before.before.before.before.before.loop.invariant (search rules) (rw (c.smaller-positive.ensures, c.before.time-to-reach-level.ensures, c.before.before.before.before.before.before.tank-at.ensures))
 
 returns : tie.Need-returns invariant-loop decreases-loop
 unfolding next_level
@@ -99,7 +96,6 @@ next-level-spec =
     mul-demand
     element-copy-out-demand
     time-to-reach-level-requires
-    seconds-of-requires
     smaller-positive-requires
     add-i
     loop-less

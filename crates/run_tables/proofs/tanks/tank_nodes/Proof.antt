@@ -2,7 +2,7 @@
 use Prim.Native.Nat.{◌-◌, ◌≤◌}
 use mathlib.Core.Path.{◌≡◌, sym}
 use native.Mathlib.Omega.{arith}
-use lib.ListN.{length, length_set}
+use lib.ListN.{length, length-set}
 use borrow.Author.Rules.{rules}
 use Rattle.run_tables.specs.Tanks.{tank_in}
 use Rattle.run_tables.specs.Held.{Pushed}
@@ -47,7 +47,7 @@ loop-less : tie.Need-loop-smaller invariant-loop decreases-loop
 loop-less c = search rules
 
 loop-again : tie.Need-loop-preserved invariant-loop decreases-loop
-loop-again c = (omega arith, simp length_set c.before.before.before.loop.invariant.1, push c.before.before.before.loop.invariant.2 (omega (arith, c.before.before.before.loop.invariant.1, c.before.before.before.loop.invariant.2.few, c.before.before.before.before.before.requires)) c.with-tank.ensures)
+loop-again c = (omega arith, simp length-set c.before.before.before.loop.invariant.1, push c.before.before.before.loop.invariant.2 (omega (arith, c.before.before.before.loop.invariant.1, c.before.before.before.loop.invariant.2.few, c.before.before.before.before.before.requires)) c.with-tank.ensures)
 
 returns : tie.Need-returns invariant-loop decreases-loop
 returns c = let q : c.before.loop.i ≡ c.before.before.before.args.n = omega (arith, c.before.loop.invariant.0, c.loop-test.false) in rw (← q) c.before.loop.invariant.2

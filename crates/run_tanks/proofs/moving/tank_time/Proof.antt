@@ -44,20 +44,17 @@ element-copy-out-demand c = omega (arith, c.before.before.before.before.before.r
 time-to-fill-or-drain-requires : tie.Need-time-to-fill-or-drain-requires invariant-loop decreases-loop
 time-to-fill-or-drain-requires c κs = tt
 
-seconds-of-requires : tie.Need-seconds-of-requires invariant-loop decreases-loop
-seconds-of-requires c κs = tt
-
 smaller-requires : tie.Need-smaller-requires invariant-loop decreases-loop
 smaller-requires c κs = tt
 
 add-k : tie.Need-overflow-add-k invariant-loop decreases-loop
-add-k c = omega (arith, c.before.before.before.before.before.before.before.before.before.before.requires.most)
+add-k c = omega (arith, c.before.before.before.before.before.before.before.before.before.requires.most)
 
 loop-less : tie.Need-loop-smaller invariant-loop decreases-loop
 loop-less c = search rules
 
 loop-again : tie.Need-loop-preserved invariant-loop decreases-loop
-loop-again c = turned c.before.before.before.before.before.before.before.before.before.loop.invariant (search rules) (rw (c.smaller.ensures, c.before.seconds-of.ensures, c.before.before.time-to-fill-or-drain.ensures.0, c.before.before.before.before.before.before.tank-at.ensures))
+loop-again c = turned c.before.before.before.before.before.before.before.before.loop.invariant (search rules) (rw (c.smaller.ensures, c.before.time-to-fill-or-drain.ensures, c.before.before.before.before.before.tank-at.ensures))
 
 returns : tie.Need-returns invariant-loop decreases-loop
 unfolding tank_time_of
@@ -79,7 +76,6 @@ tank-time-spec =
     mul-demand
     element-copy-out-demand
     time-to-fill-or-drain-requires
-    seconds-of-requires
     smaller-requires
     add-k
     loop-less

@@ -2,7 +2,7 @@
 use Prim.Native.Nat.{◌-◌, ◌<◌}
 use native.Mathlib.Omega.{arith}
 use mathlib.Core.Path.{ap}
-use lib.ListN.{length, length_set}
+use lib.ListN.{length, length-set}
 use Rattle.awaited.specs.declared.Awaited.{Awaited}
 use Rattle.stops_ahead.proofs.Filling.{goes_on, goes_off, Stops, stops_begun, stops_turned, stops_ended}
 use borrow.Author.Rules.{rules}
@@ -40,7 +40,7 @@ add-n : tie.Need-overflow-add-n invariant-loop decreases-loop
 add-n c = search (rules, (inside c.before.before.before).1)
 
 loop-less : tie.Need-loop-smaller invariant-loop decreases-loop
-loop-less c = simp length_set (omega (arith, (inside c.before.before.before).1))
+loop-less c = simp length-set (omega (arith, (inside c.before.before.before).1))
 
 loop-again : tie.Need-loop-preserved invariant-loop decreases-loop
 loop-again c =

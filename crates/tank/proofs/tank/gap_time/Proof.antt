@@ -1,12 +1,11 @@
--- `tank::tank::gap_time` meets its contract: the number by the definition, the answer by the laws of `Reached`. Assumes nothing.
+-- `tank::tank::gap_time` meets its contract. Assumes nothing.
 use mathlib.Core.Path.{◌≡◌, sym, ap, ◌∙◌}
 use mathlib.Core.Logic.{⊎_elim}
 use mathlib.Core.Bool.{false, ◌&&◌}
 use lib.Ieee.{Float, of_bits, lt}
 use Rattle.number.specs.Order.{abs}
 use Rattle.number.specs.Constants.{decimal}
-use Rattle.tank.specs.Tanks.{gap_seconds, gap_time}
-use Rattle.tank.proofs.Reached.{both, arrived, never}
+use Rattle.tank.specs.Tanks.{gap_time}
 use Rattle.tank.proofs.tank.gap_time.Statement.{statement}
 use Rattle.tank.proofs.tank.gap_time.Tie as tie
 
@@ -28,39 +27,26 @@ abs-requires : tie.Need-abs-requires
 abs-requires c κs = tt
 
 returns : tie.Need-returns
-unfolding gap_time gap_seconds decimal of_bits
-returns c = arrived (rw (sym (ap (λ (m : Float). lt m (decimal 5 1)) c.before.abs.ensures) ∙ c.if1.true))
+unfolding gap_time decimal of_bits
+returns c = rw (sym (ap (λ (m : Float). lt m (decimal 5 1)) c.before.abs.ensures) ∙ c.if1.true)
 
 round-to-u64-requires : tie.Need-round-to-u64-requires
 round-to-u64-requires c κs = tt
 
-reach-of-requires : tie.Need-reach-of-requires
-reach-of-requires c κs = tt
-
 returns-2 : tie.Need-returns-2
-unfolding gap_time gap_seconds decimal of_bits
-returns-2 c =
-    let r = c.before in
-    both c.reach_of.ensures (rw (wide r.before.before.before, r.before.before.if2.true, r.before.if3.true) (sym r.round-to-u64.ensures))
+unfolding gap_time decimal of_bits
+returns-2 c = rw (wide c.before.before.before, c.before.before.if2.true, c.before.if3.true) c.round-to-u64.ensures
 
 round-to-u64-requires-2 : tie.Need-round-to-u64-requires-2
 round-to-u64-requires-2 c κs = tt
 
-reach-of-requires-2 : tie.Need-reach-of-requires-2
-reach-of-requires-2 c κs = tt
-
 returns-3 : tie.Need-returns-3
-unfolding gap_time gap_seconds decimal of_bits
-returns-3 c =
-    let r = c.before in
-    both c.reach-of2.ensures
-    (rw (wide r.before.before.before.before, not_above r.before.before.before, r.before.before.if4.true, r.before.if5.true) (sym r.round-to-u642.ensures))
+unfolding gap_time decimal of_bits
+returns-3 c = rw (wide c.before.before.before.before, not_above c.before.before.before, c.before.before.if4.true, c.before.if5.true) c.round-to-u642.ensures
 
 returns-4 : tie.Need-returns-4
-unfolding gap_time gap_seconds decimal of_bits
-returns-4 c = never (rw (wide c.before.before, not_above c.before, not_below c))
+unfolding gap_time decimal of_bits
+returns-4 c = rw (wide c.before.before, not_above c.before, not_below c)
 
 pub gap-time-spec : {M : Type 1} → statement M
-gap-time-spec =
-    tie.close
-    (tie.spec abs-requires returns round-to-u64-requires reach-of-requires returns-2 round-to-u64-requires-2 reach-of-requires-2 returns-3 returns-4)
+gap-time-spec = tie.close (tie.spec abs-requires returns round-to-u64-requires returns-2 round-to-u64-requires-2 returns-3 returns-4)

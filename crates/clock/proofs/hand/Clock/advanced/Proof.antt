@@ -1,7 +1,7 @@
 -- `clock::hand::Clock::advanced` meets its contract. Each test decides one of the definition's. Assumes nothing.
 use Prim.Native.Nat.{◌+◌, ◌^◌}
 use native.Mathlib.Omega.{arith}
-use borrow.Author.Tests.{eq-eqb, ne_eqb, lt_ltb, le_ltb}
+use borrow.Author.Tests.{eq-eqb, ne_eqb, lt-ltb, le-ltb}
 use Rattle.clock.specs.Steps.{advanced}
 use borrow.Author.Rules.{rules}
 use Rattle.clock.proofs.hand.Clock.advanced.Statement.{statement}
@@ -19,7 +19,7 @@ unfolding advanced
 returns-2 c =
     rw (
       ne_eqb _ _ c.before.if1.false,
-      le_ltb (c.before.before.args.self.instant + c.before.before.args.length) (2 ^ 32) (omega arith),
+      le-ltb (c.before.before.args.self.instant + c.before.before.args.length) (2 ^ 32) (omega arith),
     )
 
 returns-3 : tie.Need-returns-3
@@ -27,8 +27,8 @@ unfolding advanced
 returns-3 c =
     rw (
       ne_eqb _ _ c.before.before.if1.false,
-      lt_ltb (c.before.before.before.args.self.instant + c.before.before.before.args.length) (2 ^ 32) (omega arith),
-      le_ltb (c.before.before.before.args.self.count + 1) (2 ^ 32) (omega arith),
+      lt-ltb (c.before.before.before.args.self.instant + c.before.before.before.args.length) (2 ^ 32) (omega arith),
+      le-ltb (c.before.before.before.args.self.count + 1) (2 ^ 32) (omega arith),
     )
 
 add-t6 : tie.Need-overflow-add-t6
@@ -42,8 +42,8 @@ unfolding advanced
 returns-4 c =
     rw (
       ne_eqb _ _ c.before.before.if1.false,
-      lt_ltb (c.before.before.before.args.self.instant + c.before.before.before.args.length) (2 ^ 32) (omega arith),
-      lt_ltb (c.before.before.before.args.self.count + 1) (2 ^ 32) (omega arith),
+      lt-ltb (c.before.before.before.args.self.instant + c.before.before.before.args.length) (2 ^ 32) (omega arith),
+      lt-ltb (c.before.before.before.args.self.count + 1) (2 ^ 32) (omega arith),
     )
 
 pub advanced-spec : {M : Type 1} → statement M
