@@ -1,3 +1,4 @@
+#![tactic(auto)]
 // What the controls of a table wait for, read into two lists of numbers: whoever asks often is lent these, where a table of controls would be
 // copied every time.
 ghost use Rattle.std.specs.Prelude.{◌≡◌, ◌≤◌};
@@ -10,7 +11,7 @@ use model::*;
 pub const NEVER: u32 = 4294967295;
 
 // What each control waits for, by its number: an instant, and a clock time; NEVER where it waits for none.
-#[derive(Drop)]
+#[derive(Clone, Copy)]
 pub struct Awaited {
     pub times: [u32; 64],
     pub clocks: [u32; 64],

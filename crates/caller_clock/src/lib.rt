@@ -1,3 +1,4 @@
+#![tactic(auto)]
 // The clock and its count in the caller's own record.
 ghost use Rattle.std.specs.Prelude.{◌≡◌};
 ghost use Rattle.clock.specs.Steps.{advanced};

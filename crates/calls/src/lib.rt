@@ -1,3 +1,4 @@
+#![tactic(auto)]
 // The public calls: each judges the tables and the state first (10), and yields the number and the same state where it refuses.
 ghost use Rattle.std.specs.Prelude.{◌≡◌};
 ghost use Rattle.tank_links.specs.Groups.{begins_of, middles_of, entries_of};
@@ -8,14 +9,14 @@ use model::*;
 use tables::tables_ok;
 
 // The number, 0 where the call is accepted, and the state.
-#[derive(Drop)]
+#[derive(Clone, Copy)]
 pub struct Called {
     pub number: u32,
     pub state: State,
 }
 
 // The same, and whether the pass changed anything.
-#[derive(Drop)]
+#[derive(Clone, Copy)]
 pub struct PressureCalled {
     pub number: u32,
     pub state: State,
@@ -23,7 +24,7 @@ pub struct PressureCalled {
 }
 
 // The same as `Called`, and the step's length in seconds.
-#[derive(Drop)]
+#[derive(Clone, Copy)]
 pub struct StepCalled {
     pub number: u32,
     pub length: u32,
@@ -31,7 +32,7 @@ pub struct StepCalled {
 }
 
 // A premise's truth, or the number of the refusal. The state is only read.
-#[derive(Drop)]
+#[derive(Clone, Copy)]
 pub enum PremiseAnswer {
     Truth(bool),
     Refused(u32),

@@ -1,3 +1,4 @@
+#![tactic(auto)]
 // The names of the files that a test program reads: case000, case001, ..
 ghost use Rattle.std.specs.Prelude.{◌≡◌};
 ghost use Rattle.case_names.specs.Names.{case_name};

@@ -7,7 +7,7 @@ use number::constants::MAX;
 
 // The options that a step reads, in seconds. `hydraulic`, `report` and `pattern` are timesteps; the hydraulic one is that in
 // force, and 0 for none. `fast`: the project is on the fast path.
-#[derive(Drop)]
+#[derive(Clone, Copy)]
 pub struct Times {
     pub duration: u32,
     pub hydraulic: u32,

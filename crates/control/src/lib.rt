@@ -1,3 +1,4 @@
+#![tactic(auto)]
 // `control.rs` for one control, with the node that it watches and the link that it sets.
 ghost use Rattle.std.specs.Prelude.{◌≡◌};
 ghost use Rattle.control.specs.Controls.{watched, above, is_active, activate, level_time, candidate};
@@ -9,7 +10,7 @@ use number::constants::{H_TOL, L_TOL, MAX};
 use tank::{CubicFeetPerSecond, Feet};
 
 // A link's state after a control has acted on it, and whether its status or setting changed.
-#[derive(Drop)]
+#[derive(Clone, Copy)]
 pub struct Activated {
     pub state: LinkState,
     pub changed: bool,

@@ -1,3 +1,4 @@
+#![tactic(auto)]
 // Runs the driver on each of the files case000, case001, .. of the folder that it is run in, and prints a line with the name of each before its
 // listing. `compare/rust/driver_cases.py` makes the files, the works of the stock among them, and has the Rust say what is to be printed.
 use case_names::case_name;

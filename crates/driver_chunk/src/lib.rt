@@ -1,3 +1,4 @@
+#![tactic(auto)]
 // The driver's run in chunks: each takes some bytes of the input and fills a buffer with lines, as many turns as the input and the room allow.
 // A chunk unpacks the state into arrays of numbers, lends them to the passes of every turn, and packs the state again. What it demands is that tables and
 // state are those of a project in order: whoever makes chunks lays the tables out once, and by soundness every turn leaves a state in order.
@@ -17,7 +18,7 @@ use run_state::*;
 
 // The state after the turns; how many bytes of the input they took and of the buffer they filled; whether the run is over; and how many bytes the
 // next turn waits for, 0 where it waits for none.
-#[derive(Drop)]
+#[derive(Clone, Copy)]
 pub struct Chunk {
     pub state: State,
     pub used: usize,

@@ -1,3 +1,4 @@
+#![tactic(auto)]
 // What the driver's input begins with: the count of the image's words.
 ghost use Rattle.std.specs.Prelude.{◌≡◌, ◌≤◌};
 ghost use Rattle.driver_image.specs.Opening.{image_words};

@@ -1,3 +1,4 @@
+#![tactic(auto)]
 // The driver between two descriptors: it reads an image and loads, and writes the listing. This crate only moves bytes; what they are is put
 // together by `driver_image` and `driver_chunk`. No contract can say what is read or written: the law `image-accepted` of `driver_printed` says that the
 // chunks' texts, written one after the other, are what document 01 asks for.
@@ -13,7 +14,7 @@ use model::State;
 use state::start_from;
 
 // The input at hand: the bytes of the buffer from used up to have, and whether no more come.
-#[derive(Drop)]
+#[derive(Clone, Copy)]
 struct Held {
     used: usize,
     have: usize,

@@ -1,3 +1,4 @@
+#![tactic(auto)]
 // A load out of the bytes that are left of the driver's input, taken into the arrays of a run.
 ghost use Rattle.std.specs.Prelude.{◌≡◌, cond, ◌≤◌, eqb, length};
 ghost use Rattle.run_tables.specs.Held.{TanksInside};
@@ -8,7 +9,7 @@ use run_loads::{load_fault, sum_inflows, take_flows, take_heads};
 use run_tanks::empty_tanks;
 
 // The number of the fault, 0 where there is none, and how many bytes were taken.
-#[derive(Drop)]
+#[derive(Clone, Copy)]
 pub struct Loaded {
     pub fault: u32,
     pub taken: usize,

@@ -1,3 +1,4 @@
+#![tactic(auto)]
 // The tables of a run: all that its steps read of a project but the patterns' multipliers, laid out once as arrays of numbers.
 ghost use Rattle.std.specs.Prelude.{◌≡◌, ◌&&◌, eqb};
 ghost use Rattle.driver_tables.specs.Laid.{PartsInside, GroupsAsked, Grouped, LaidFrom};
@@ -13,7 +14,7 @@ use simulation::times_from;
 use tank_links::{lay_groups, no_entries, no_middles, no_places};
 
 // The table of the tanks' links.
-#[derive(Drop)]
+#[derive(Clone, Copy)]
 pub struct LinkGroups {
     pub begins: [u32; 257],
     pub middles: [u32; 256],
@@ -22,7 +23,7 @@ pub struct LinkGroups {
 
 // What a step reads: options and times, how many nodes and links there are and how long each pattern is; the tanks with their links; the controls, as
 // rows in image order, and by kind what calls for a step to end; demands, reservoirs with a pattern, and what a load goes by.
-#[derive(Drop)]
+#[derive(Clone, Copy)]
 pub struct Tables {
     pub options: Options,
     pub times: Times,

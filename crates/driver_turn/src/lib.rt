@@ -1,3 +1,4 @@
+#![tactic(auto)]
 // Closing and the step of a turn, over the arrays of a run: the links of the tanks, the candidates, the length, and the tanks moved on.
 ghost use Rattle.std.specs.Prelude.{◌≡◌, ◌≤◌};
 ghost use Rattle.clock.specs.Steps.{clock_time, step_length};

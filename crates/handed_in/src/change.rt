@@ -4,7 +4,7 @@
 use model::PatternIndex;
 use number::from_words;
 
-#[derive(Drop)]
+#[derive(Clone, Copy)]
 pub struct Change {
     pub what: u32,
     pub index: usize,

@@ -14,7 +14,7 @@ const HAS_WRITTEN: u32 = 1000;
 const SHOWN: usize = 16;
 
 // The number that laying it out gave, and the lent words after it.
-#[derive(Drop)]
+#[derive(Clone, Copy)]
 pub struct TankLinks {
     pub number: u32,
     pub begins: [u32; 257],

@@ -1,3 +1,4 @@
+#![tactic(auto)]
 // Hands tables and states that were changed to every call, and prints the number that each gives. Standard input has images one after the other: of
 // each its count of words and the words, a count of changes, and the changes, of four words each: what is changed, an index, and the low and high
 // word of the new value. Each change is made alone, to the project as decoded, its start, and the table of its tanks' links, which is printed first.

@@ -6,7 +6,7 @@ ghost use Rattle.image.specs.Parts.{parts_of};
 use model::*;
 
 // What an image says but its patterns, which are written into lent arrays.
-#[derive(Drop)]
+#[derive(Clone, Copy)]
 pub struct Parts {
     pub fault: u32,
     pub options: Options,

@@ -1,3 +1,4 @@
+#![tactic(auto)]
 // Decodes each of the files case000, case001, .. of the folder that it is run in, and prints a line with the number of its first fault.
 // `compare/images.py` makes the files, and says of each which sentence of document 01 it is for.
 use case_names::case_name;

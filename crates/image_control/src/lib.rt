@@ -1,3 +1,4 @@
+#![tactic(auto)]
 // What the payload of a control says (kind 7), and the first of numbers 4, 5 and 6 that it breaks.
 ghost use Rattle.std.specs.Prelude.{◌≡◌};
 ghost use Rattle.image_control.specs.Entries.{condition_of, status_action_of, setting_action_of, control_of, control_words_ok, control_entry};

@@ -5,7 +5,7 @@ ghost use Rattle.image_entry.specs.Entries.{passed};
 use model::{Control, Link, Node, Options, Premise};
 
 // The number of the record's first fault, or what it says. A pattern's multipliers stay in the payload.
-#[derive(Drop)]
+#[derive(Clone, Copy)]
 pub enum Entry {
     Refused(u32),
     Options(Options),

@@ -1,3 +1,4 @@
+#![tactic(auto)]
 // What the payload of a link says (kind 6), and the first of numbers 4, 5 and 6 that it breaks.
 ghost use Rattle.std.specs.Prelude.{◌≡◌};
 ghost use Rattle.image_link.specs.Entries.{link_type_of, link_of, link_words_ok, link_entry};

@@ -1,3 +1,4 @@
+#![tactic(auto)]
 // What the payload of a node says (kinds 3, 4 and 5), and the first of numbers 4, 5 and 6 that it breaks.
 ghost use Rattle.std.specs.Prelude.{◌≡◌, ◌≤◌};
 ghost use Rattle.image_node.specs.Entries.{node_entry, reservoir_of, reservoir_entry, tank_of, tank_entry, demand_of, demands_of, junction_of, junction_entry};

@@ -1,3 +1,4 @@
+#![tactic(auto)]
 // What the payload of the options says (kind 1), and number 5 where it breaks it.
 ghost use Rattle.std.specs.Prelude.{◌≡◌};
 ghost use Rattle.image_options.specs.Entries.{options_of, options_entry};

@@ -1,3 +1,4 @@
+#![tactic(auto)]
 // What the payload of a pattern says (kind 2), and the first of numbers 4 and 5 that it breaks.
 ghost use Rattle.std.specs.Prelude.{◌≡◌};
 ghost use Rattle.image_pattern.specs.Entries.{multipliers_ok, pattern_entry};

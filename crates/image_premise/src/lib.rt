@@ -1,3 +1,4 @@
+#![tactic(auto)]
 // What the payload of a premise says (kind 8), and the first of numbers 4, 5 and 6 that it breaks.
 ghost use Rattle.std.specs.Prelude.{◌≡◌};
 ghost use Rattle.image_premise.specs.Entries.{operator_of, node_attribute_of, tank_attribute_of, link_attribute_of, system_attribute_of, target_of, comparison_of, value_of, premise_of, premise_words_ok, premise_entry};

@@ -1,3 +1,4 @@
+#![tactic(auto)]
 // A record of an image: its header (number 2), that its payload is there (number 3), and its answer by kind.
 ghost use Rattle.std.specs.Prelude.{◌≡◌};
 ghost use Rattle.image_record.specs.Framing.{stage_of, size_ok, stage_ok, header_ok, entry_of, record_of, fault_of};

@@ -1,3 +1,4 @@
+#![tactic(auto)]
 // Document 01's instants, run on the compiled code: a line each, its answer behind it. A number is shown by the bits of its f64.
 use clock::{Times, clock_time, smaller_positive};
 use control::candidate;

@@ -1,3 +1,4 @@
+#![tactic(auto)]
 // Number 10: what every later call asks first of the tables and the state that it is handed.
 ghost use Rattle.std.specs.Prelude.{◌≡◌, ◌&&◌, ◌≤◌, get_or};
 ghost use Rattle.model.specs.Blank.{blank_node_state, blank_link_state};

@@ -1,3 +1,4 @@
+#![tactic(auto)]
 // One call of a list, run by its words.
 ghost use Rattle.std.specs.Prelude.{◌≡◌, ◌+◌, ◌≤◌, length, take, drop};
 ghost use Rattle.image_entry.specs.Words.{word as word_of};

@@ -1,3 +1,4 @@
+#![tactic(auto)]
 // A list of calls run from a project's start, which promises demand 3 of it.
 ghost use Rattle.std.specs.Prelude.{◌≡◌, true, ◌+◌, ◌≤◌, ◌<◌, ◌^◌};
 ghost use Rattle.judge.specs.Judgement.{in_order};
@@ -12,7 +13,7 @@ use second_clock::second_applies;
 
 // The number, 0 where the list is run; the state that it leaves; the steps asked, the sum of the steps answered in seconds, and the times that the
 // clock moved.
-#[derive(Drop)]
+#[derive(Clone, Copy)]
 pub struct ListRun {
     pub number: u32,
     pub state: State,

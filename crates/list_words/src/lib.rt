@@ -1,3 +1,4 @@
+#![tactic(auto)]
 // A list of calls as words: the call that each code stands for, the words that it has, and whether a list of them is whole.
 ghost use Rattle.std.specs.Prelude.{◌≡◌, true};
 ghost use Rattle.clock.specs.Machine.{bit};

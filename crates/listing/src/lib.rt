@@ -1,3 +1,4 @@
+#![tactic(auto)]
 // The lines that the programs print, and numbers as text, written into a buffer that the caller lends.
 // Each public function writes its text from a position on where all of it has room, and answers the position after it;
 // without room it changes nothing and answers the position.

@@ -1,3 +1,4 @@
+#![tactic(auto)]
 // A load: every link's flow, then every junction's head, and the tanks' net inflow. What it needs of the tables is laid out, and its passes
 // run over arrays of numbers.
 ghost use Rattle.std.specs.Prelude.{◌≡◌};

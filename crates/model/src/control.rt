@@ -1,7 +1,7 @@
 // The types of `control.rs`.
 
 // Targets are in feet above the node's elevation, times in seconds.
-#[derive(Drop)]
+#[derive(Clone, Copy)]
 pub enum ControlCondition {
     HighPressure { node: usize, target: f64 },
     LowPressure { node: usize, target: f64 },
@@ -12,20 +12,20 @@ pub enum ControlCondition {
 }
 
 // The Rust's `Option<LinkStatus>`.
-#[derive(Drop)]
+#[derive(Clone, Copy)]
 pub enum StatusAction {
     KeepStatus,
     SetStatus(u32),
 }
 
 // The Rust's `Option<f64>`.
-#[derive(Drop)]
+#[derive(Clone, Copy)]
 pub enum SettingAction {
     KeepSetting,
     SetSetting(f64),
 }
 
-#[derive(Drop)]
+#[derive(Clone, Copy)]
 pub struct Control {
     pub condition: ControlCondition,
     pub link: usize,

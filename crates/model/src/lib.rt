@@ -1,3 +1,4 @@
+#![tactic(auto)]
 // The project's tables and the state, by value, and what the Rust says of one node, one link and one pattern.
 // Files carry the names of the Rust's. Entries past the counts are blank.
 mod control;

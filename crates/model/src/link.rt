@@ -12,7 +12,7 @@ pub const CLOSED: u32 = 2;
 pub const FIXED_CLOSED: u32 = 9;
 
 // Diameters in feet, flows in cubic feet per second.
-#[derive(Drop)]
+#[derive(Clone, Copy)]
 pub enum LinkType {
     Pipe { diameter: f64 },
     Pump { initial_flow: f64, speed: f64 },
@@ -20,7 +20,7 @@ pub enum LinkType {
 }
 
 // `start` and `end` are nodes.
-#[derive(Drop)]
+#[derive(Clone, Copy)]
 pub struct Link {
     pub start: usize,
     pub end: usize,

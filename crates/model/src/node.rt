@@ -5,20 +5,20 @@ ghost use Rattle.model.specs.Nodes.{elevation, initial_head, is_tank, is_junctio
 use crate::pattern::PatternIndex;
 use tank::Tank;
 
-#[derive(Drop)]
+#[derive(Clone, Copy)]
 pub struct Reservoir {
     pub elevation: f64,
     pub head_pattern: PatternIndex,
 }
 
-#[derive(Drop)]
+#[derive(Clone, Copy)]
 pub struct Demand {
     pub base: f64,
     pub pattern: PatternIndex,
 }
 
 // A junction's demands, in order.
-#[derive(Drop)]
+#[derive(Clone, Copy)]
 pub enum Demands {
     NoDemand,
     One(Demand),
@@ -27,21 +27,21 @@ pub enum Demands {
     Four(Demand, Demand, Demand, Demand),
 }
 
-#[derive(Drop)]
+#[derive(Clone, Copy)]
 pub struct Junction {
     pub disabled: bool,
     pub elevation: f64,
     pub demands: Demands,
 }
 
-#[derive(Drop)]
+#[derive(Clone, Copy)]
 pub enum NodeType {
     Reservoir(Reservoir),
     Tank(Tank),
     Junction(Junction),
 }
 
-#[derive(Drop)]
+#[derive(Clone, Copy)]
 pub struct Node {
     pub kind: NodeType,
 }

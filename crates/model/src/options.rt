@@ -2,7 +2,7 @@
 use crate::pattern::PatternIndex;
 
 // Times are in seconds; `hydraulic`, `report` and `pattern` are timesteps.
-#[derive(Drop)]
+#[derive(Clone, Copy)]
 pub struct Options {
     pub duration: u32,
     pub hydraulic: u32,

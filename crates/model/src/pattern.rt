@@ -3,7 +3,7 @@ ghost use Rattle.std.specs.Prelude.{◌≡◌};
 ghost use Rattle.model.specs.Patterns.{period, multiplier_at};
 
 // The Rust's `Option<usize>`.
-#[derive(Drop)]
+#[derive(Clone, Copy)]
 pub enum PatternIndex {
     NoPattern,
     PatternAt(usize),

@@ -12,7 +12,7 @@ use crate::rule::{
 };
 use number::ComparisonOperator;
 
-#[derive(Drop)]
+#[derive(Clone, Copy)]
 pub struct Counts {
     pub patterns: usize,
     pub nodes: usize,
@@ -22,7 +22,7 @@ pub struct Counts {
 }
 
 // Pattern k has lengths[k] multipliers, from 168 * k on.
-#[derive(Drop)]
+#[derive(Clone, Copy)]
 pub struct Project {
     pub options: Options,
     pub counts: Counts,

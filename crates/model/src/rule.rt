@@ -1,28 +1,28 @@
 // The types of `rule.rs`. A premise is its `RuleCondition`.
 use number::ComparisonOperator;
 
-#[derive(Drop)]
+#[derive(Clone, Copy)]
 pub enum NodeAttribute {
     Demand,
     Head,
     Pressure,
 }
 
-#[derive(Drop)]
+#[derive(Clone, Copy)]
 pub enum TankAttribute {
     Level,
     FillTime,
     DrainTime,
 }
 
-#[derive(Drop)]
+#[derive(Clone, Copy)]
 pub enum LinkAttribute {
     Flow,
     Status,
     Setting,
 }
 
-#[derive(Drop)]
+#[derive(Clone, Copy)]
 pub enum SystemAttribute {
     Demand,
     Time,
@@ -30,7 +30,7 @@ pub enum SystemAttribute {
 }
 
 // What a premise looks at: a node or a link by its index, or the system.
-#[derive(Drop)]
+#[derive(Clone, Copy)]
 pub enum RuleConditionTarget {
     Node(usize, NodeAttribute),
     Tank(usize, TankAttribute),
@@ -38,20 +38,20 @@ pub enum RuleConditionTarget {
     System(SystemAttribute),
 }
 
-#[derive(Drop)]
+#[derive(Clone, Copy)]
 pub enum ConditionValue {
     Number(f64),
     Status(u32),
     Time(u32),
 }
 
-#[derive(Drop)]
+#[derive(Clone, Copy)]
 pub enum RuleConditionOperator {
     Or,
     And,
 }
 
-#[derive(Drop)]
+#[derive(Clone, Copy)]
 pub struct Premise {
     pub operator: RuleConditionOperator,
     pub target: RuleConditionTarget,

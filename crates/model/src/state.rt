@@ -5,7 +5,7 @@ ghost use Rattle.model.specs.Blank.{blank_state};
 use clock::Clock;
 
 // Head in feet, demands in cubic feet per second.
-#[derive(Drop)]
+#[derive(Clone, Copy)]
 pub struct NodeState {
     pub head: f64,
     pub demand: f64,
@@ -13,14 +13,14 @@ pub struct NodeState {
 }
 
 // `status` is 0 to 9, in `LinkStatus` order.
-#[derive(Drop)]
+#[derive(Clone, Copy)]
 pub struct LinkState {
     pub flow: f64,
     pub status: u32,
     pub setting: f64,
 }
 
-#[derive(Drop)]
+#[derive(Clone, Copy)]
 pub struct State {
     pub nodes: [NodeState; 256],
     pub links: [LinkState; 384],

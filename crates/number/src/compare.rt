@@ -5,7 +5,7 @@ ghost use Rattle.number.specs.Compare.{compare_f64};
 use crate::constants::H_TOL;
 use crate::order::abs;
 
-#[derive(Drop)]
+#[derive(Clone, Copy)]
 pub enum ComparisonOperator {
     Eq,
     Ne,

@@ -1,3 +1,4 @@
+#![tactic(auto)]
 // f64 numbers as the Rust has them: what its standard library gives, each with an equation, and the constants.
 // The account of IEEE 754 that every contract goes by is the logic's `lib.Ieee`.
 mod compare;

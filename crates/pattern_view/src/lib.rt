@@ -1,3 +1,4 @@
+#![tactic(auto)]
 // A pattern's multiplier at an instant, and a view that holds the lent multipliers.
 ghost use Rattle.std.specs.Prelude.{◌≡◌};
 ghost use Rattle.pattern_view.specs.View.{multiplier_in_force};
@@ -17,7 +18,7 @@ fn multiplier_by_instant(
 }
 
 // The multipliers of one pattern, lent, with the times by which a period is found.
-#[derive(Drop)]
+#[derive(Clone, Copy)]
 pub struct PatternView<'a> {
     pub multipliers: &'a [f64],
     pub pattern_start: u32,

@@ -1,3 +1,4 @@
+#![tactic(auto)]
 // A block of result numbers, 8 bytes each, row by row, and the same bytes in planes, as the office's archive loader takes them: the lowest
 // bytes of all, then the second, up to the eighth. Bytes are moved and no number is looked at, so a NaN keeps its bits.
 ghost use Rattle.std.specs.Prelude.{◌≡◌, ◌*◌, ◌<◌, length};

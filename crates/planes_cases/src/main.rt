@@ -1,3 +1,4 @@
+#![tactic(auto)]
 // Puts blocks in planes and back as standard input says, and prints the number of each call and what the second buffer holds after it.
 // The input is a count of orders, and the orders, in words of 32 bits: 1 or 2, a count and that many bytes, which are from then on the block
 // or the planes; 3 (to planes) or 4 (from planes), the low and high word of the rows, and how often the call is made, at least once. Any other
@@ -10,7 +11,7 @@ const TO_PLANES: u32 = 3;
 const FROM_PLANES: u32 = 4;
 
 // How many bytes at the start of each buffer are lent to a call.
-#[derive(Drop)]
+#[derive(Clone, Copy)]
 struct Sizes {
     block: usize,
     planes: usize,

@@ -1,3 +1,4 @@
+#![tactic(auto)]
 // A premise of the project on the state: which node and link it looks at, and the demand of the whole system.
 ghost use Rattle.std.specs.Prelude.{◌≡◌, ◌<◌};
 ghost use Rattle.tables.specs.Fit.{TablesFit};

@@ -1,3 +1,4 @@
+#![tactic(auto)]
 // The program `replay`: reads an image and a list of calls from standard input, and prints what each call answers with the whole state after it.
 use libc::{STDIN_FILENO, STDOUT_FILENO};
 

@@ -1,3 +1,4 @@
+#![tactic(auto)]
 // Replays each of the files case000, case001, .. of the folder that it is run in, and prints a line with the name of each before its transcript.
 // `compare/rust/vectors.py` chose them; what they must print is the Rust's answer.
 use case_names::case_name;

@@ -1,40 +1,60 @@
-// The words of an image and of a call, read from a descriptor. No contract can say what comes in; what is answered is held to the bytes that were read.
-ghost use Rattle.std.specs.Prelude.{◌+◌, ◌≤◌, ◌≡◌, true, length};
-ghost use Rattle.replay_input.specs.Input.{Taken};
+#![tactic(auto)]
+// The words of an image and of a call, read from a reader. No contract can say what comes in; what is answered is held to the bytes that were read.
+// A read that fails is the error of the function that made it.
+ghost use Rattle.std.specs.Prelude.{◌+◌, ◌≤◌, ◌≡◌, true, length, IfOk};
+ghost use Rattle.replay_input.specs.Input.{Front, Taken};
+
+use std::io;
+use std::io::Read;
 
 // The longest load has 1,281 words. Of a longer one as many stand for it as are enough to refuse it.
 const LONGEST: u32 = 1282;
 
+// Reads until the buffer is full or the input ends, and answers how many bytes it put at the start of it.
+pub fn read_full<R: Read>(from: &mut R, buf: &mut [u8]) -> io::Result<usize>
+    ensures { IfOk result (λ n. Front n buf.new) }
+{
+    let mut done = 0;
+    while done < buf.len() {
+        let n = from.read(&mut buf[done..])?;
+        if n == 0 {
+            return Ok(done);
+        }
+        done += n;
+    }
+    Ok(done)
+}
+
 // Reads n bytes to a place of the buffer, and answers whether they were there.
-pub fn read_bytes(from: i32, bytes: &mut [u8], at: usize, n: usize) -> bool
-    ensures { result ≡ true → at + n ≤ length bytes.old }
+pub fn read_bytes<R: Read>(from: &mut R, bytes: &mut [u8], at: usize, n: usize) -> io::Result<bool>
+    ensures { IfOk result (λ there. there ≡ true → at + n ≤ length bytes.old) }
 {
     if bytes.len() < at {
-        return false;
+        return Ok(false);
     }
     if bytes.len() - at < n {
-        return false;
+        return Ok(false);
     }
     let end = at + n;
-    let got = io::read_full(from, &mut bytes[at..end]);
-    got == n
+    let got = read_full(from, &mut bytes[at..end])?;
+    Ok(got == n)
 }
 
 // Reads a count of words and the words to the start of a table, and answers how many; 0 where the count is 0, over 16,384 or cut.
-pub fn read_image(from: i32, bytes: &mut [u8], table: &mut [u32]) -> usize
-    ensures { Taken result bytes.new table.old table.new }
+pub fn read_image<R: Read>(from: &mut R, bytes: &mut [u8], table: &mut [u32]) -> io::Result<usize>
+    ensures { IfOk result (λ n. Taken n bytes.new table.old table.new) }
 {
-    if !read_bytes(from, bytes, 0, 4) {
-        return 0;
+    if !read_bytes(from, bytes, 0, 4)? {
+        return Ok(0);
     }
     let n = words::word_at(bytes, 0);
     if 16384 < n {
-        return 0;
+        return Ok(0);
     }
-    if !read_bytes(from, bytes, 0, (n as usize) * 4) {
-        return 0;
+    if !read_bytes(from, bytes, 0, (n as usize) * 4)? {
+        return Ok(0);
     }
-    words_in(bytes, n as usize, table)
+    Ok(words_in(bytes, n as usize, table))
 }
 
 // The words at the start of the buffer, as many as asked for.
@@ -49,15 +69,15 @@ fn words_in(bytes: &[u8], n: usize, table: &mut [u32]) -> usize
 }
 
 // Reads past n words, and answers whether they were there.
-fn pass_words(from: i32, bytes: &mut [u8], n: u32) -> bool {
+fn pass_words<R: Read>(from: &mut R, bytes: &mut [u8], n: u32) -> io::Result<bool> {
     let mut i = 0;
     while i < n {
-        if !read_bytes(from, bytes, 0, 4) {
-            return false;
+        if !read_bytes(from, bytes, 0, 4)? {
+            return Ok(false);
         }
         i += 1;
     }
-    true
+    Ok(true)
 }
 
 // Has the call's count say that its load is the longest that is passed on.
@@ -72,49 +92,49 @@ fn put_longest(bytes: &mut [u8]) {
 }
 
 // Reads a load's count and words behind its code, and answers how many words the call has; 0 where it is cut.
-fn read_load(from: i32, bytes: &mut [u8]) -> usize {
-    if !read_bytes(from, bytes, 4, 4) {
-        return 0;
+fn read_load<R: Read>(from: &mut R, bytes: &mut [u8]) -> io::Result<usize> {
+    if !read_bytes(from, bytes, 4, 4)? {
+        return Ok(0);
     }
     let count = words::word_at(bytes, 4);
     if count <= LONGEST {
-        if !read_bytes(from, bytes, 8, (count as usize) * 4) {
-            return 0;
+        if !read_bytes(from, bytes, 8, (count as usize) * 4)? {
+            return Ok(0);
         }
-        return 2 + (count as usize);
+        return Ok(2 + (count as usize));
     }
-    if !read_bytes(from, bytes, 8, (LONGEST as usize) * 4) {
-        return 0;
+    if !read_bytes(from, bytes, 8, (LONGEST as usize) * 4)? {
+        return Ok(0);
     }
-    let mut rest = io::large_buffer();
-    if !pass_words(from, &mut rest, count - LONGEST) {
-        return 0;
+    let mut rest = [0u8; 4];
+    if !pass_words(from, &mut rest, count - LONGEST)? {
+        return Ok(0);
     }
     put_longest(bytes);
-    2 + (LONGEST as usize)
+    Ok(2 + (LONGEST as usize))
 }
 
-fn read_operands(from: i32, bytes: &mut [u8]) -> usize {
+fn read_operands<R: Read>(from: &mut R, bytes: &mut [u8]) -> io::Result<usize> {
     let code = words::word_at(bytes, 0);
     if code == 3 {
         return read_load(from, bytes);
     }
     if code == 6 {
-        if !read_bytes(from, bytes, 4, 4) {
-            return 0;
+        if !read_bytes(from, bytes, 4, 4)? {
+            return Ok(0);
         }
-        return 2;
+        return Ok(2);
     }
-    1
+    Ok(1)
 }
 
 // Reads a call's words to the start of a table, and answers how many; 0 where it is cut.
-pub fn read_call(from: i32, bytes: &mut [u8], table: &mut [u32]) -> usize
-    ensures { Taken result bytes.new table.old table.new }
+pub fn read_call<R: Read>(from: &mut R, bytes: &mut [u8], table: &mut [u32]) -> io::Result<usize>
+    ensures { IfOk result (λ n. Taken n bytes.new table.old table.new) }
 {
-    if !read_bytes(from, bytes, 0, 4) {
-        return 0;
+    if !read_bytes(from, bytes, 0, 4)? {
+        return Ok(0);
     }
-    let n = read_operands(from, bytes);
-    words_in(bytes, n, table)
+    let n = read_operands(from, bytes)?;
+    Ok(words_in(bytes, n, table))
 }

@@ -1,3 +1,4 @@
+#![tactic(auto)]
 // Premise truth: `RuleCondition::is_active` of rule.rs, for one premise with the node or the link that it looks at.
 ghost use Rattle.std.specs.Prelude.{◌≡◌};
 ghost use Rattle.rule.specs.Premises.{number_truth, time_truth, compare_status, status_truth, node_value, tank_value, tank_truth, link_truth, system_value, premise_truth};
@@ -8,7 +9,7 @@ use number::{ComparisonOperator, abs, u64_to_f64};
 use tank::{CubicFeetPerSecond, Feet, Tank};
 
 // What a premise may ask of the whole system: the demand of all nodes, the instant and the clock time.
-#[derive(Drop)]
+#[derive(Clone, Copy)]
 pub struct System {
     pub demand: f64,
     pub time: u32,

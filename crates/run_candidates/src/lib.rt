@@ -1,3 +1,4 @@
+#![tactic(auto)]
 // When the controls next call for a step to end: the smallest candidate over the list of each kind.
 mod next;
 

@@ -1,3 +1,4 @@
+#![tactic(auto)]
 // The pass that applies the rows of the controls to the links.
 mod apply;
 

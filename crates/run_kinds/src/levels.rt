@@ -7,7 +7,7 @@ use control::{condition_target, watched};
 use model::*;
 
 // Call i waits for tank tanks[i] of the tank table to be at targets[i]; what stands past the count is free.
-#[derive(Drop)]
+#[derive(Clone, Copy)]
 pub struct Levels {
     pub count: usize,
     pub tanks: [u32; 64],

@@ -1,3 +1,4 @@
+#![tactic(auto)]
 // What the controls of each kind wait for, laid out once: their times, clock times and levels, each kind in a list of its own.
 mod levels;
 mod times;

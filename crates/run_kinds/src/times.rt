@@ -7,7 +7,7 @@ use control::condition_seconds;
 use model::*;
 
 // What stands past the count is free.
-#[derive(Drop)]
+#[derive(Clone, Copy)]
 pub struct Seconds {
     pub count: usize,
     pub seconds: [u32; 64],

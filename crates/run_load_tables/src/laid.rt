@@ -8,14 +8,14 @@ ghost use Rattle.run_load_tables.specs.Laid.{junction_in, EndsLaid, MarksLaid};
 use model::*;
 
 // The nodes that are junctions, in order; what stands past the count is free.
-#[derive(Drop)]
+#[derive(Clone, Copy)]
 pub struct JunctionNodes {
     pub count: usize,
     pub nodes: [u32; 256],
 }
 
 // The nodes at which each link begins and ends.
-#[derive(Drop)]
+#[derive(Clone, Copy)]
 pub struct LinkEnds {
     pub starts: [u32; 384],
     pub ends: [u32; 384],

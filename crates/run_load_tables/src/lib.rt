@@ -1,3 +1,4 @@
+#![tactic(auto)]
 // What a load goes by, laid out once: where the junctions stand, the ends of the links, and which nodes are tanks.
 mod laid;
 

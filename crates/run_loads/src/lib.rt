@@ -1,3 +1,4 @@
+#![tactic(auto)]
 // A load into a run's arrays: the passes that judge and take it.
 mod taking;
 

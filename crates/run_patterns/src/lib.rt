@@ -1,3 +1,4 @@
+#![tactic(auto)]
 // The passes that the patterns of an instant make over a run's tables.
 mod filling;
 

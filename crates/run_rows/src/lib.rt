@@ -1,3 +1,4 @@
+#![tactic(auto)]
 // The controls of a run, each a row of numbers, in image order, laid out once.
 mod rows;
 

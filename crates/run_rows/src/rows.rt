@@ -10,7 +10,7 @@ use model::*;
 
 // A control in the form in which it is applied. Kinds: 0 acts never, 1 high level, 2 low level, 3 time, 4 clock. Actions: 0 none, 1 a
 // status, 2 a setting. `elevation` is that of the watched tank, `flow` the initial flow of the link.
-#[derive(Drop)]
+#[derive(Clone, Copy)]
 pub struct Row {
     pub kind: u32,
     pub node: u32,
@@ -44,7 +44,7 @@ pub fn row_at<'a>(words: &'a [u32; 384], numbers: &'a [f64; 256], i: usize) -> R
 }
 
 // Six words and four numbers each.
-#[derive(Drop)]
+#[derive(Clone, Copy)]
 pub struct ControlTable {
     pub count: usize,
     pub words: [u32; 384],

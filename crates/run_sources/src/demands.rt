@@ -9,7 +9,7 @@ use crate::places::place_of;
 use model::*;
 
 // Node i has counts[i] demands; demand j of it stands at 4 * i + j: its base, and the place of its pattern.
-#[derive(Drop)]
+#[derive(Clone, Copy)]
 pub struct DemandTable {
     pub counts: [u32; 256],
     pub bases: [f64; 1024],

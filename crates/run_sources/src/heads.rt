@@ -7,14 +7,14 @@ use crate::places::place_of;
 use model::*;
 
 // Where they stand; what stands past the count is free.
-#[derive(Drop)]
+#[derive(Clone, Copy)]
 struct HeadNodes {
     count: usize,
     nodes: [u32; 256],
 }
 
 // Reservoir r of them stands at node nodes[r]: its elevation, and the place of its pattern.
-#[derive(Drop)]
+#[derive(Clone, Copy)]
 pub struct HeadTable {
     pub count: usize,
     pub nodes: [u32; 256],

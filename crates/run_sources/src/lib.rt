@@ -1,3 +1,4 @@
+#![tactic(auto)]
 // The tables of what the patterns change, the demands in use and the reservoirs with a pattern, and the lengths of the patterns.
 mod demands;
 mod heads;

@@ -1,3 +1,4 @@
+#![tactic(auto)]
 // The parts of a state as arrays of numbers, and back.
 ghost use Rattle.std.specs.Prelude.{◌≡◌, length, map};
 ghost use Rattle.run_state.specs.Lists.{head_of, demand_of, demand_flow_of, flow_of, status_of, setting_of, NodesHold, LinksHold};

@@ -1,3 +1,4 @@
+#![tactic(auto)]
 // The tables of a run: what its steps read of a project, laid out once as arrays of numbers, so that a pass is lent them and reads them in
 // place.
 mod rows;

@@ -10,7 +10,7 @@ use model::*;
 use tank::{Feet, Tank};
 
 // The nodes that are tanks, in order; what stands past the count is free.
-#[derive(Drop)]
+#[derive(Clone, Copy)]
 pub struct TankNodes {
     pub count: usize,
     pub nodes: [u32; 256],
@@ -18,7 +18,7 @@ pub struct TankNodes {
 
 // Tank k stands at node nodes[k]; its numbers are the five from 5 * k on: elevation, initial, least and greatest level, diameter; overflows[k] is 1
 // where it may overflow, else 0.
-#[derive(Drop)]
+#[derive(Clone, Copy)]
 pub struct TankTable {
     pub count: usize,
     pub nodes: [u32; 256],

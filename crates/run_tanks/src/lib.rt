@@ -1,3 +1,4 @@
+#![tactic(auto)]
 // What else a run makes of the tanks, over its tables: their demands back to 0, the smallest candidate, the heads moved. Only tanks are visited.
 mod emptying;
 mod moving;

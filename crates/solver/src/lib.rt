@@ -1,3 +1,4 @@
+#![tactic(auto)]
 // `update_tank_links` and `apply_pressure_controls` of hydraulicsolver.rs.
 mod closing;
 mod pressure;

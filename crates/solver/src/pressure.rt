@@ -8,7 +8,7 @@ use model::*;
 use state_link::press;
 
 // The state after the pass, and whether it changed anything.
-#[derive(Drop)]
+#[derive(Clone, Copy)]
 pub struct Pressed {
     pub state: State,
     pub changed: bool,

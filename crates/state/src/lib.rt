@@ -1,3 +1,4 @@
+#![tactic(auto)]
 // `state.rs`: the state at the start, patterns, controls and tanks, each over the whole state. They stand behind the public calls, which
 // judge the tables first; what each demands of them is that they fit (`TablesFit`).
 mod controls;

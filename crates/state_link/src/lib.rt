@@ -1,3 +1,4 @@
+#![tactic(auto)]
 // A link's part in the passes over a state: at the start, in closing and in the pressure pass. Each function is on one link, or on one tank;
 // the loops over them stand in state, run_closing and solver.
 mod closing;

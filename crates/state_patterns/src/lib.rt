@@ -1,1 +1,2 @@
+#![tactic(auto)]
 // No code: what patterns make of one node (specs/Patterns.antt).

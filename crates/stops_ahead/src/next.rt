@@ -14,7 +14,7 @@ use tables::tables_ok;
 const DAY: u32 = 86400;
 
 // The next stop; none is left at the duration. Unforeseen: the works is not one whose stops are known beforehand. Refused: the number.
-#[derive(Drop)]
+#[derive(Clone, Copy)]
 pub enum StopAnswer {
     Stop(u32),
     NoMore,
@@ -23,7 +23,7 @@ pub enum StopAnswer {
 }
 
 // How many stops were written; the rest as above.
-#[derive(Drop)]
+#[derive(Clone, Copy)]
 pub enum StopsAnswer {
     Stops(usize),
     Unforeseen,

@@ -1,3 +1,4 @@
+#![tactic(auto)]
 // Asks for the stops of a works from instants on. Standard input has an image (its count of words and the words), a count of questions, and the
 // questions, of two words each: an instant, and for how many stops there is room. Each line has the next stop, how many are written to a list with
 // that room, and the list of eight words, which were all 7. `compare/stops_asked.py` makes the input and what has to come out.

@@ -1,3 +1,4 @@
+#![tactic(auto)]
 // What a control has to satisfy (kind 7): its times, status and numbers' ranges (number 5) and the indices of its node and link (number 6).
 ghost use Rattle.std.specs.Prelude.{◌≡◌};
 ghost use Rattle.table_control.specs.Records.{condition_ok, status_action_ok, setting_action_ok, control_ok, condition_index_ok, control_indices_ok};

@@ -1,19 +1,18 @@
 -- Tests: what a call's answer says of the definition, and conjunctions as the definitions write them, a && b && .., grouped to the left.
 -- Assumes nothing.
 use mathlib.Core.Path.{◌≡◌, refl, sym, ◌∙◌}
-use mathlib.Core.Bool.{Bool, true, false, not, ◌&&◌}
+use mathlib.Core.Bool.{Bool, true, false, ◌&&◌}
 use mathlib.Core.List.{List, [], ◌∷◌}
 use Prim.Native.Nat.{ℕ, zero, suc}
 use lib.ListN.{get_or}
-use borrow.Author.Tests.{not-true, not-false}
 use Rattle.model.proofs.Loops.{both_left, both_right}
 
 -- the code asks `if !a`, and a is the definition's t
-pub failed : {a t : Bool} → a ≡ t → not a ≡ true → t ≡ false
-failed e h = sym e ∙ not-true _ h
+pub failed : {a t : Bool} → a ≡ t → a ≡ false → t ≡ false
+failed e h = sym e ∙ h
 
-pub passed : {a t : Bool} → a ≡ t → not a ≡ false → t ≡ true
-passed e h = sym e ∙ not-false _ h
+pub passed : {a t : Bool} → a ≡ t → a ≡ true → t ≡ true
+passed e h = sym e ∙ h
 
 -- the conjunction of a test and those after it
 abbrev conj : Bool → List Bool → Bool

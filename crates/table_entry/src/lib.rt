@@ -1,3 +1,4 @@
+#![tactic(auto)]
 // The tests of number 10 that speak of one thing of the tables: the counts, a pattern, a record against the counts of what it names.
 ghost use Rattle.std.specs.Prelude.{◌≡◌, ◌<◌, ◌≤◌};
 ghost use Rattle.table_entry.specs.Fits.{counts_ok, multipliers_ok, pattern_ok, node_fits, link_fits, control_fits, premise_fits};

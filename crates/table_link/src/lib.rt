@@ -1,3 +1,4 @@
+#![tactic(auto)]
 // What a link has to satisfy (kind 6): its ends, status and numbers' ranges (number 5) and its nodes' indices (number 6).
 ghost use Rattle.std.specs.Prelude.{◌≡◌};
 ghost use Rattle.table_link.specs.Records.{link_type_ok, link_ok, link_indices_ok};

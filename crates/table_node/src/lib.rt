@@ -1,3 +1,4 @@
+#![tactic(auto)]
 // What a node has to satisfy (kinds 3, 4 and 5): its numbers' ranges (number 5) and its patterns' indices (number 6).
 ghost use Rattle.std.specs.Prelude.{◌≡◌};
 ghost use Rattle.table_node.specs.Records.{tank_ok, demand_ok, demands_ok, node_ok, demand_index_ok, demands_indices_ok, node_indices_ok};

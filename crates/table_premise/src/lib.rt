@@ -1,3 +1,4 @@
+#![tactic(auto)]
 // What a premise has to satisfy (kind 8): its value's range (number 5) and its index (number 6).
 ghost use Rattle.std.specs.Prelude.{◌≡◌};
 ghost use Rattle.table_premise.specs.Records.{value_ok, premise_ok, premise_indices_ok};

@@ -1,3 +1,4 @@
+#![tactic(auto)]
 // The ranges and codes of document 01 (number 5) that the records of the tables are asked, a pattern's index (number 6), and what the options have
 // to satisfy; each other kind of record has a crate above. The decoder asks them of what a record says, and every later call of the tables that it
 // is handed (number 10).

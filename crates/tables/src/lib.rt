@@ -1,3 +1,4 @@
+#![tactic(auto)]
 // The tables' part of number 10: whether tables that anyone may have written keep document 01's limits, entry by entry below the counts. Each loop is
 // given its own table and not the project: what is taken by value is copied.
 ghost use Rattle.std.specs.Prelude.{◌≡◌, ◌≤◌, get_or};

@@ -1,3 +1,4 @@
+#![tactic(auto)]
 // A cylindrical tank of `tank.rs`, with a level, a volume and a flow kept apart.
 mod tank;
 mod units;

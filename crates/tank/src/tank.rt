@@ -6,7 +6,7 @@ use crate::units::{CubicFeet, CubicFeetPerSecond, Feet};
 use number::constants::{MAX, PI};
 
 // Elevation, levels and diameter are in feet; `overflow`: it does not close when it is full.
-#[derive(Drop)]
+#[derive(Clone, Copy)]
 pub struct Tank {
     pub elevation: Feet,
     pub initial_level: Feet,

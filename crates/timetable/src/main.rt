@@ -1,3 +1,4 @@
+#![tactic(auto)]
 // The timetable: reads an image from standard input, and prints the instants at which a works without tanks stops.
 use libc::{STDIN_FILENO, STDOUT_FILENO};
 

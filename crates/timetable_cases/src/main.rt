@@ -1,3 +1,4 @@
+#![tactic(auto)]
 // Writes the timetable of each of the files case000, case001, .. of the folder that it is run in, behind a line with the name of each.
 // `compare/rust/timetable_cases.py` makes the files, the works of the stock among them, and has the Rust say which instants are visited.
 use case_names::case_name;

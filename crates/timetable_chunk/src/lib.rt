@@ -1,3 +1,4 @@
+#![tactic(auto)]
 // The timetable of a works without tanks, in chunks: its stops, one instant a line, then `steps N`; or the line `none` where they are not known
 // beforehand.
 ghost use Rattle.std.specs.Prelude.{◌≡◌, ◌*◌, ◌≤◌, length};
@@ -10,7 +11,7 @@ use model::Project;
 use stops_ahead::{StopsAnswer, next_stops};
 
 // How many bytes were written to the start of the buffer, the last instant written and the count of the stops up to it, and whether nothing comes after.
-#[derive(Drop)]
+#[derive(Clone, Copy)]
 pub struct Chunk {
     pub written: usize,
     pub instant: u32,

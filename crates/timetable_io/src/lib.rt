@@ -1,3 +1,4 @@
+#![tactic(auto)]
 // The program `timetable` between two descriptors: it reads an image and writes its timetable. What stands behind the image, the loads, is not read.
 // This crate only moves bytes; what they are is put together by `replay_input`, `image` and `timetable_chunk`. No contract can say what is read or
 // written: the law `printed-is` of `timetable_chunk` says that the chunks' texts, written one after the other, are the timetable.

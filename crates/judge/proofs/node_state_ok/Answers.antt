@@ -1,0 +1,9 @@
+-- `judge::node_state_ok` meets its contract. Assumes nothing.
+use lib.Ieee.{of_bits}
+use Rattle.number.specs.Constants.{decimal}
+use Rattle.judge.specs.Judgement.{node_state_ok}
+use Rattle.judge.proofs.node_state_ok.Goals as goal
+
+pub returns : goal.returns
+unfolding node_state_ok decimal of_bits
+returns c = rw (c.within.ensures, c.within-2.ensures, c.within-3.ensures)

@@ -1,0 +1,10 @@
+use Prim.Native.Nat.{◌-◌}
+use Rattle.model.proofs.Loops.{Ran}
+use Rattle.state.specs.Starting.{node_started_in}
+use Rattle.state.proofs.start.start_nodes.Given as goal
+
+abbrev pub invariant-loop-i : goal.invariant-loop-i
+invariant-loop-i l = Ran l.n (node_started_in l.table) l.initial.st l.i l.st
+
+abbrev pub decreases-loop-i : goal.decreases-loop-i
+decreases-loop-i l = l.n - l.i
