@@ -1,8 +1,9 @@
 #![tactic(auto)]
-// The driver between two descriptors: it reads an image and loads, and writes the listing. This crate only moves bytes; what they are is put
+// The driver between a reader and a writer: it reads an image and loads, and writes the listing. This crate only moves bytes; what they are is put
 // together by `driver_image` and `driver_chunk`. No contract can say what is read or written: the law `image-accepted` of `driver_printed` says that the
-// chunks' texts, written one after the other, are what document 01 asks for.
-ghost use Rattle.std.specs.Prelude.{◌+◌, ◌-◌, ◌≤◌, min, ◌≡◌, ◌++◌, length, take, drop};
+// chunks' texts, written one after the other, are what document 01 asks for. A read or
+// write that fails ends the listing with its error.
+ghost use Rattle.std.specs.Prelude.{◌+◌, ◌-◌, ◌≤◌, min, ◌≡◌, ◌++◌, length, take, drop, IfOk};
 ghost use Rattle.state.specs.Starting.{start_from};
 ghost use Rattle.driver_tables.specs.Laid.{PartsInside, LaidFrom};
 ghost use Rattle.driver_chunk.specs.Chunks.{RunOf};
@@ -11,7 +12,10 @@ ghost use Rattle.driver_io.specs.Held.{Filled, Accepted};
 use driver_tables::{Tables, lay_out};
 use image::Parts;
 use model::State;
+use replay_input::read_full;
 use state::start_from;
+use std::io;
+use std::io::{Read, Write};
 
 // The input at hand: the bytes of the buffer from used up to have, and whether no more come.
 #[derive(Clone, Copy)]
@@ -21,10 +25,16 @@ struct Held {
     whole: bool,
 }
 
+// Writes a text so that it is out before the next read, which may wait.
+fn write<W: Write>(to: &mut W, text: &[u8]) -> io::Result<()> {
+    to.write_all(text)?;
+    to.flush()
+}
+
 // Prints the line of fault n alone.
-fn refuse(n: u32, out: &mut [u8], to: i32) {
+fn refuse<W: Write>(n: u32, out: &mut [u8], to: &mut W) -> io::Result<()> {
     let k = listing::put_refused_line(out, 0, n);
-    io::write_all(to, &out[..k]);
+    write(to, &out[..k])
 }
 
 // Moves the bytes from `from` up to `to` to the start of the buffer, and answers how many they are.
@@ -42,61 +52,53 @@ fn shift(buf: &mut [u8], from: usize, to: usize) -> usize
     n
 }
 
-// One read. It answers how many bytes it put at the start of buf, 0 at the end of the input.
-fn read(from: i32, buf: &mut [u8]) -> usize
-    ensures { result ≤ length buf.old }
-{
-    let got = libc::read(from, buf);
-    io::count(got, buf)
-}
-
 // Reads behind the first have bytes until there are need of them, or the input ends, and answers how many there are. A read takes what has
 // come and fits, and none is made once they are there, so that nobody has to end an input to be answered.
-fn read_until(from: i32, buf: &mut [u8], have: usize, need: usize) -> usize
+fn read_until<R: Read>(from: &mut R, buf: &mut [u8], have: usize, need: usize) -> io::Result<usize>
     requires { have ≤ length buf.old }
-    ensures lower_bound { (have ≤ result) × (result ≤ length buf.old) }
+    ensures lower_bound { IfOk result (λ n. (have ≤ n) × (n ≤ length buf.old)) }
     ensures buf_unchanged { take have buf.new ≡ take have buf.old }
 {
     let mut n = have;
     while n < need {
-        let got = read(from, &mut buf[n..]);
+        let got = from.read(&mut buf[n..])?;
         if got == 0 {
-            return n;
+            return Ok(n);
         }
         n += got;
     }
-    n
+    Ok(n)
 }
 
 // Where wants is not 0: moves what is left of the input to the front, and reads until there are as many bytes.
-fn refill(input: &mut [u8], h: Held, wants: usize, from: i32) -> Held
+fn refill<R: Read>(input: &mut [u8], h: Held, wants: usize, from: &mut R) -> io::Result<Held>
     requires { (h.used ≤ h.have) × (h.have ≤ length input.old) }
-    ensures { Filled h wants input.old input.new result }
+    ensures { IfOk result (λ r. Filled h wants input.old input.new r) }
 {
     let used = h.used;
     let have = h.have;
     if wants == 0 {
-        return h;
+        return Ok(h);
     }
     let kept = shift(input, used, have);
-    let n = read_until(from, input, kept, wants);
-    Held {
+    let n = read_until(from, input, kept, wants)?;
+    Ok(Held {
         used: 0,
         have: n,
         whole: n < wants,
-    }
+    })
 }
 
 // The run by the tables of a project, from its state at the start. Tables are handed over once a chunk.
-fn run(
+fn run<R: Read, W: Write>(
     t: Tables,
     multipliers: &[f64; 5376],
     start: State,
     input: &mut [u8],
     out: &mut [u8],
-    from: i32,
-    to: i32,
-)
+    from: &mut R,
+    to: &mut W,
+) -> io::Result<()>
     requires in_bounds { 22 ≤ length out.old }
     requires run_of { RunOf t multipliers.now start }
 {
@@ -109,17 +111,18 @@ fn run(
     let mut wants = 0;
     let mut over = false;
     while !over {
-        held = refill(input, held, wants, from);
+        held = refill(input, held, wants, from)?;
         let used = held.used;
         let have = held.have;
         let c = driver_chunk::advance(t, multipliers, state, &input[used..have], held.whole, out);
         let n = c.written;
-        io::write_all(to, &out[..n]);
+        write(to, &out[..n])?;
         state = c.state;
         held.used = used + c.used;
         wants = c.wants;
         over = c.over;
     }
+    Ok(())
 }
 
 // Room for the patterns of an image.
@@ -143,48 +146,48 @@ fn least(a: usize, b: usize) -> usize
 }
 
 // Reads as many words as both have room for, and answers how many there are: none where the input ends before the last of them.
-fn read_piece(from: i32, buf: &mut [u8], words: &mut [u32]) -> usize
-    ensures { result ≤ length words.old }
+fn read_piece<R: Read>(from: &mut R, buf: &mut [u8], words: &mut [u32]) -> io::Result<usize>
+    ensures { IfOk result (λ n. n ≤ length words.old) }
 {
     let size = least(buf.len() / 4, words.len()) * 4;
-    let got = io::read_full(from, &mut buf[..size]);
+    let got = read_full(from, &mut buf[..size])?;
     if got < size {
-        return 0;
+        return Ok(0);
     }
-    words::words_of(&buf[..size], words)
+    Ok(words::words_of(&buf[..size], words))
 }
 
 // Reads count words, piece by piece, and answers how many there are: none where one is missing, since an image of no words has the same number.
-fn read_words(from: i32, buf: &mut [u8], words: &mut [u32], count: usize) -> usize
+fn read_words<R: Read>(from: &mut R, buf: &mut [u8], words: &mut [u32], count: usize) -> io::Result<usize>
     requires { count ≤ length words.old }
-    ensures { result ≤ length words.old }
+    ensures { IfOk result (λ n. n ≤ length words.old) }
 {
     let mut n = 0;
     while n < count {
-        let got = read_piece(from, buf, &mut words[n..count]);
+        let got = read_piece(from, buf, &mut words[n..count])?;
         if got == 0 {
-            return 0;
+            return Ok(0);
         }
         n += got;
     }
-    n
+    Ok(n)
 }
 
 // What the image says. Its words are needed no longer than here.
-fn open_image(
-    from: i32,
+fn open_image<R: Read>(
+    from: &mut R,
     buf: &mut [u8],
     lengths: &mut [usize; 32],
     multipliers: &mut [f64; 5376],
-) -> Parts
+) -> io::Result<Parts>
     requires { 4 ≤ length buf.old }
-    ensures { result.fault ≡ 0 → Accepted result lengths.new multipliers.new }
+    ensures { IfOk result (λ parts. parts.fault ≡ 0 → Accepted parts lengths.new multipliers.new) }
 {
     let mut words = no_words();
-    let head = io::read_full(from, &mut buf[..4]);
+    let head = read_full(from, &mut buf[..4])?;
     let count = driver_image::image_words(&buf[..head]);
-    let n = read_words(from, buf, &mut words, count);
-    image::decode_into(&words[..n], lengths, multipliers)
+    let n = read_words(from, buf, &mut words, count)?;
+    Ok(image::decode_into(&words[..n], lengths, multipliers))
 }
 
 // The tables of what the image says, laid out once.
@@ -213,23 +216,27 @@ fn start_of(parts: Parts) -> State
 }
 
 // The image, the header, and the run from the start.
-fn drive_slices(input: &mut [u8], out: &mut [u8], from: i32, to: i32)
+fn drive_slices<R: Read, W: Write>(
+    input: &mut [u8],
+    out: &mut [u8],
+    from: &mut R,
+    to: &mut W,
+) -> io::Result<()>
     requires in_bounds { 4 ≤ length input.old }
     requires in_bounds_2 { 22 ≤ length out.old }
 {
     let mut lengths = no_lengths();
     let mut multipliers = no_multipliers();
-    let parts = open_image(from, input, &mut lengths, &mut multipliers);
+    let parts = open_image(from, input, &mut lengths, &mut multipliers)?;
     let fault = parts.fault;
     if fault != 0 {
-        refuse(fault, out, to);
-        return;
+        return refuse(fault, out, to);
     }
     let h = listing::put_header(out, 0);
-    io::write_all(to, &out[..h]);
+    write(to, &out[..h])?;
     let t = tables_of(parts, lengths);
     let start = start_of(parts);
-    run(t, &multipliers, start, input, out, from, to);
+    run(t, &multipliers, start, input, out, from, to)
 }
 
 // Room for loads, of which none has more than 5,124 bytes: the more of them come in one chunk, the less is handed over for each.
@@ -243,6 +250,11 @@ pub fn line_buffer() -> [u8; 8192] {
 }
 
 // The same with buffers of a fixed size, so that nothing is asked of the caller.
-pub fn drive(input: &mut [u8; 16384], out: &mut [u8; 8192], from: i32, to: i32) {
-    drive_slices(input, out, from, to);
+pub fn drive<R: Read, W: Write>(
+    input: &mut [u8; 16384],
+    out: &mut [u8; 8192],
+    from: &mut R,
+    to: &mut W,
+) -> io::Result<()> {
+    drive_slices(input, out, from, to)
 }

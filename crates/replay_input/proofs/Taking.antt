@@ -4,13 +4,12 @@ use mathlib.Core.Path.{◌≡◌, sym, ap, ◌∙◌}
 use mathlib.Core.List.{List, ◌++◌}
 use native.Mathlib.Omega.{arith}
 use lib.ListN.{length, take, drop, length-append, take-append-drop}
-use Rattle.io.specs.Counts.{IsPrefixLen}
 use lib.Seq.{length-take-le}
 use Rattle.words.specs.Words.{first_words}
 use Rattle.words.proofs.Filling.{length_first_words, filled_none, words_more}
-use Rattle.replay_input.specs.Input.{Taken}
+use Rattle.replay_input.specs.Input.{Front, Taken}
 
-counts : (n : ℕ) (xs : List ℕ) → n ≤ length xs → IsPrefixLen n xs
+counts : (n : ℕ) (xs : List ℕ) → n ≤ length xs → Front n xs
 counts n xs h = (h, sym (length-take-le n xs h))
 
 room : (n : ℕ) (ws before : List ℕ) → length ws ≡ n → n ≤ length before → n ≤ length (ws ++ drop n before)

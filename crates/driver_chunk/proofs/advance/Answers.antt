@@ -16,12 +16,12 @@ use Rattle.driver_chunk.proofs.Going.{going_length}
 use Rattle.driver_chunk.proofs.Turns.{Begins, Turns, lists, held_at_first, taken_inside, turns_begun, turns_ended, turns_finished, turns_refused, turns_less, turns_step, can_now, late_now}
 use Rattle.driver_chunk.proofs.advance.Goals as goal
 
-inside : (c : goal.Start) → TablesInside c.args.t1
+inside : (c : goal.Start) → TablesInside c.args.t
 inside c = tables_inside c.requires.laid (fit c.requires.project c.args.s c.requires.ordered)
 
 -- the arrays hold the state at first
-begins : (c : goal.After-wants-input-UNKNOWN) (p : Project) → Laid p c.args.t1 → c.args.multipliers.now ≡ p.multipliers → in_order p c.args.s ≡ true
-    → Begins p c.args.s c.args.t1 c.args.multipliers.now
+begins : (c : goal.After-wants-input-UNKNOWN) (p : Project) → Laid p c.args.t → c.args.multipliers.now ≡ p.multipliers → in_order p c.args.s ≡ true
+    → Begins p c.args.s c.args.t c.args.multipliers.now
     (lists c.heads_of-heads.result c.demands_of-demands.result c.demand_flows_of-demand_flows.result c.flows_of-flows.result c.statuses_of-statuses.result c.settings_of-settings.result c.args.s.clock)
 begins c p laid same ordered =
     let a = c.args in
@@ -36,12 +36,12 @@ begins c p laid same ordered =
     }
 
 -- the project that is asked for, and its turns
-begun : (c : goal.At-loop-t) → Begins c.requires.project c.args.s c.args.t1 c.args.multipliers.now
+begun : (c : goal.At-loop-t) → Begins c.requires.project c.args.s c.args.t c.args.multipliers.now
     (lists c.heads_of-heads.result c.demands_of-demands.result c.demand_flows_of-demand_flows.result c.flows_of-flows.result c.statuses_of-statuses.result c.settings_of-settings.result c.args.s.clock)
 begun c = let a = c.requires in begins c a.project a.laid a.same a.ordered
 
 so_far : (c : goal.At-loop-t) → Turns c.requires.project c.args.s c.args.input.now c.args.whole c.args.out.now c.loop-t.out
-    (lists c.loop-t.heads c.loop-t.demands c.loop-t.demand_flows c.loop-t.flows c.loop-t.statuses c.loop-t.settings c.loop-t.clock) c.loop-t.in-force c.loop-t.used c.loop-t.written c.loop-t.wants
+    (lists c.loop-t.heads c.loop-t.demands c.loop-t.demand_flows c.loop-t.flows c.loop-t.statuses c.loop-t.settings c.loop-t.clock) c.loop-t.in_force c.loop-t.used c.loop-t.written c.loop-t.wants
 so_far c = c.loop-t.invariant.1 c.requires.project c.args.s (begun c)
 
 written_fits : (c : goal.At-loop-t) → c.loop-t.written ≤ length c.loop-t.out
@@ -86,7 +86,7 @@ shape_of-out-then-fault-ne0 c = c.put_refused_line-end.auto.0 ∙ going_length (
 pub returns-then-fault-ne0 : goal.returns-then-fault-ne0
 returns-then-fault-ne0 c = λ p laid same ordered.
     let l = c.loop-t in
-    let tested = can_now l.wants (length l.out - l.written) l.clock.instant c.args.t1.options.duration c.can_step.ensures c.loop-t-test.true in
+    let tested = can_now l.wants (length l.out - l.written) l.clock.instant c.args.t.options.duration c.can_step.ensures c.loop-t-test.true in
     let b = begins c p laid same ordered in
     turns_refused b (c.loop-t.invariant.1 p c.args.s b) tested.0 tested.1 c.loop-t.table c.loop-t.invariant.0 c.apply_patterns-in_force.ensures.value c.apply_patterns-in_force.ensures.demand_flows_value c.clock_time-hour.ensures c.apply_controls.ensures c.load_left-loaded.ensures c.if-fault-ne0.true c.state_of-state.ensures c.put_refused_line-end.ensures.value c.put_refused_line-end.ensures.buf_after
 
@@ -102,13 +102,13 @@ overflow_sub-input c = taken_inside c.args.input.now c.loop-t.used c.load_left-l
 pub loop-t-smaller : goal.loop-t-smaller
 loop-t-smaller c =
     let l = c.loop-t in
-    let tested = can_now l.wants (length l.out - l.written) l.clock.instant c.args.t1.options.duration c.can_step.ensures c.loop-t-test.true in
+    let tested = can_now l.wants (length l.out - l.written) l.clock.instant c.args.t.options.duration c.can_step.ensures c.loop-t-test.true in
     turns_less (begun c) (so_far c) tested.0 tested.1 c.loop-t.table c.loop-t.invariant.0 c.apply_patterns-in_force.ensures.value c.apply_patterns-in_force.ensures.demand_flows_value c.clock_time-hour.ensures c.apply_controls.ensures c.load_left-loaded.ensures c.if-fault-ne0.false c.step-length.ensures.statuses_after c.step-length.ensures.demands_after c.step-length.ensures.value c.step-length.ensures.heads_after c.advanced-clock.ensures c.put_step_line-written.ensures.value c.put_step_line-written.ensures.buf_after
 
 pub loop-t-preserved : goal.loop-t-preserved
 loop-t-preserved c =
     let l = c.loop-t in
-    let tested = can_now l.wants (length l.out - l.written) l.clock.instant c.args.t1.options.duration c.can_step.ensures c.loop-t-test.true in (
+    let tested = can_now l.wants (length l.out - l.written) l.clock.instant c.args.t.options.duration c.can_step.ensures c.loop-t-test.true in (
       ap (λ (w : Written). length w.table-1) (sym c.apply_patterns-in_force.ensures.demand_flows_value) ∙ table_kept _ _ _ _ _ _ ∙ c.loop-t.invariant.0,
       λ p s b. turns_step b (c.loop-t.invariant.1 p s b) tested.0 tested.1 c.loop-t.table c.loop-t.invariant.0 c.apply_patterns-in_force.ensures.value c.apply_patterns-in_force.ensures.demand_flows_value c.clock_time-hour.ensures c.apply_controls.ensures c.load_left-loaded.ensures c.if-fault-ne0.false c.step-length.ensures.statuses_after c.step-length.ensures.demands_after c.step-length.ensures.value c.step-length.ensures.heads_after c.advanced-clock.ensures c.put_step_line-written.ensures.value c.put_step_line-written.ensures.buf_after c.wants_input-wants-in-loop-t.ensures,
     )
@@ -123,7 +123,7 @@ pub returns-then-can_turn : goal.returns-then-can_turn
 returns-then-can_turn c = λ p laid same ordered.
     let b = begins c p laid same ordered in
     let can = sym c.can_turn.ensures ∙ c.if-can_turn.true in
-    turns_finished b (c.loop-t.invariant.1 p c.args.s b) can (late_now c.loop-t.wants (length c.loop-t.out - c.loop-t.written) c.loop-t.clock.instant c.args.t1.options.duration c.can_step.ensures c.loop-t-test.false can) c.state_of-state-2.ensures c.put_steps_line-end.ensures.value c.put_steps_line-end.ensures.buf_after
+    turns_finished b (c.loop-t.invariant.1 p c.args.s b) can (late_now c.loop-t.wants (length c.loop-t.out - c.loop-t.written) c.loop-t.clock.instant c.args.t.options.duration c.can_step.ensures c.loop-t-test.false can) c.state_of-state-2.ensures c.put_steps_line-end.ensures.value c.put_steps_line-end.ensures.buf_after
 
 pub shape_of-out : goal.shape_of-out
 shape_of-out c = going_length (so_far c).going

@@ -9,19 +9,19 @@ use borrow.Author.Rules.{rules}
 use Rattle.driver_io.proofs.drive_slices.Goals as goal
 
 pub slice_bounds-write_all-end : goal.slice_bounds-write_all-end
-slice_bounds-write_all-end c = let e = c.put_header-h in omega (arith, e.auto.0, after_in c.args.out.now 0 header (search rules) e.ensures.0)
+slice_bounds-write_all-end g c = let e = c.put_header-h in omega (arith, e.auto.0, after_in c.args.out.now 0 header (search rules) e.ensures.0)
 
 pub slice_bounds-write_all-end-2 : goal.slice_bounds-write_all-end-2
-slice_bounds-write_all-end-2 c = sym (length-take-le _ _ (let e = c.put_header-h in omega (arith, e.auto.0, after_in c.args.out.now 0 header (search rules) e.ensures.0)))
+slice_bounds-write_all-end-2 g c = sym (length-take-le _ _ (let e = c.put_header-h in omega (arith, e.auto.0, after_in c.args.out.now 0 header (search rules) e.ensures.0)))
 
 pub tables_of-t-requires : goal.tables_of-t-requires
-tables_of-t-requires c = parts_inside (c.open_image-parts.ensures c.if-fault-ne0.false)
+tables_of-t-requires g c = parts_inside (c.open_image-parts.ensures c.if-fault-ne0.false)
 
 pub start_of-start-requires : goal.start_of-start-requires
-start_of-start-requires c = let a = c.open_image-parts.ensures c.if-fault-ne0.false in record { nodes_bound = (few a).nodes; links_bound = (few a).links }
+start_of-start-requires g c = let a = c.open_image-parts.ensures c.if-fault-ne0.false in record { nodes_bound = (few a).nodes; links_bound = (few a).links }
 
 pub run-requires : goal.run-requires
-run-requires c = record { in_bounds = omega (arith, c.put_header-h.auto.0, c.requires.in_bounds_2); run_of = run_of (c.open_image-parts.ensures c.if-fault-ne0.false) c.tables_of-t.ensures c.start_of-start.ensures }
+run-requires g c = record { in_bounds = omega (arith, c.put_header-h.auto.0, c.requires.in_bounds_2); run_of = run_of (c.open_image-parts.ensures c.if-fault-ne0.false) c.tables_of-t.ensures c.start_of-start.ensures }
 
 pub shape_of-input : goal.shape_of-input
-shape_of-input c = c.run.auto.1.1.1.0 ∙ c.open_image-parts.auto.1.0
+shape_of-input g c = c.run.auto.1.1.1.0 ∙ c.open_image-parts.auto.1.0

@@ -7,16 +7,16 @@ use native.Mathlib.Omega.{arith}
 use Rattle.driver_io.proofs.read_until.Goals as goal
 
 pub loop-n-init : goal.loop-n-init
-loop-n-init c = (omega arith, c.requires, refl, refl)
+loop-n-init g c = (omega arith, c.requires, refl, refl)
 
 pub returns-then-got-eq0 : goal.returns-then-got-eq0
-returns-then-got-eq0 c = let l = c.loop-n in record { lower_bound = (l.invariant.0, omega arith); buf_unchanged = front_stays l.buf _ c.args.have l.n l.invariant.0 l.invariant.1 ∙ l.invariant.3 }
+returns-then-got-eq0 g c = let l = c.loop-n in record { lower_bound = (l.invariant.0, omega arith); buf_unchanged = front_stays l.buf _ c.args.have l.n l.invariant.0 l.invariant.1 ∙ l.invariant.3 }
 
 pub loop-n-preserved : goal.loop-n-preserved
-loop-n-preserved c = let l = c.loop-n in (omega arith, search rules, search rules, front_stays l.buf _ c.args.have l.n l.invariant.0 l.invariant.1 ∙ l.invariant.3)
+loop-n-preserved g c = let l = c.loop-n in (omega arith, search rules, search rules, front_stays l.buf _ c.args.have l.n l.invariant.0 l.invariant.1 ∙ l.invariant.3)
 
 pub shape_of-buf : goal.shape_of-buf
-shape_of-buf c = c.loop-n.invariant.2
+shape_of-buf g c = c.loop-n.invariant.2
 
 pub returns : goal.returns
-returns c = record { lower_bound = (c.loop-n.invariant.0, omega arith); buf_unchanged = c.loop-n.invariant.3 }
+returns g c = record { lower_bound = (c.loop-n.invariant.0, omega arith); buf_unchanged = c.loop-n.invariant.3 }

@@ -5,4 +5,4 @@ use native.Mathlib.Omega.{arith}
 use Rattle.driver_io.proofs.read_words.Goals as goal
 
 pub loop-n-init : goal.loop-n-init
-loop-n-init c = (omega arith, refl, refl)
+loop-n-init g c = (omega arith, refl, refl)

@@ -7,9 +7,6 @@ use Rattle.load.proofs.ByTable.{junctions_inside, links_inside, loaded_by_is}
 use Rattle.run_tables.proofs.Inside.{tanks_inside}
 use Rattle.load.proofs.take_load.Goals as goal
 
-long : (c : goal.Start) → length c.args.s.nodes ≡ 256
-long c = mapped _ c.args.s.nodes 256 c.well_formed.1.0.1.1.0.1.0.1
-
 pub junction_nodes-j-requires : goal.junction_nodes-j-requires
 junction_nodes-j-requires c = c.requires.few.nodes
 
@@ -27,5 +24,6 @@ take_by-requires c = record { junctions_inside = junctions_inside c.requires c.j
 
 pub returns : goal.returns
 returns c =
+    let long : length c.args.s.nodes ≡ 256 = mapped _ c.args.s.nodes 256 c.well_formed.1.0.1.1.0.1.0.1 in
     let a = c in
-    loaded_by_is a.requires c.junction_nodes-j.ensures c.link_ends-e.ensures c.tank_table-t.ensures c.tank_marks-tanks.ensures a.args.words.now a.args.s (long a) c.take_by.result c.take_by.ensures
+    loaded_by_is a.requires c.junction_nodes-j.ensures c.link_ends-e.ensures c.tank_table-t.ensures c.tank_marks-tanks.ensures a.args.words.now a.args.s (long) c.take_by.result c.take_by.ensures

@@ -21,4 +21,4 @@ pub loop-i-preserved : goal.loop-i-preserved
 loop-i-preserved c = fill c.loop-i.invariant (search rules) refl
 
 pub returns : goal.returns
-returns c = projected flow_of blank_link_state c.args.t1 c.loop-i.invariant c.loop-i-test.false c.well_formed.0.1.0.1
+returns c = projected flow_of blank_link_state c.args.links c.loop-i.invariant c.loop-i-test.false c.well_formed.0.1.0.1

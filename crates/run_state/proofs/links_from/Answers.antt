@@ -25,4 +25,4 @@ pub loop-i-preserved : goal.loop-i-preserved
 loop-i-preserved c = fill c.loop-i.invariant (search rules) refl
 
 pub returns : goal.returns
-returns c = record { flow = full_map flow_of c.loop-i.invariant c.loop-i-test.false (good_length (e_float binary64) 384 c.args.t1 _ c.well_formed.0) (λ k l. refl); status = full_map status_of c.loop-i.invariant c.loop-i-test.false (good_length (e_int w32) 384 c.args.t2 _ c.well_formed.1.0) (λ k l. refl); setting = full_map setting_of c.loop-i.invariant c.loop-i-test.false (good_length (e_float binary64) 384 c.args.t3 _ c.well_formed.1.1.0) (λ k l. refl) }
+returns c = record { flow = full_map flow_of c.loop-i.invariant c.loop-i-test.false (good_length (e_float binary64) 384 c.args.flows _ c.well_formed.0) (λ k l. refl); status = full_map status_of c.loop-i.invariant c.loop-i-test.false (good_length (e_int w32) 384 c.args.statuses _ c.well_formed.1.0) (λ k l. refl); setting = full_map setting_of c.loop-i.invariant c.loop-i-test.false (good_length (e_float binary64) 384 c.args.settings _ c.well_formed.1.1.0) (λ k l. refl) }

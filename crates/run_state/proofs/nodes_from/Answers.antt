@@ -24,4 +24,4 @@ pub loop-i-preserved : goal.loop-i-preserved
 loop-i-preserved c = fill c.loop-i.invariant (search rules) refl
 
 pub returns : goal.returns
-returns c = record { head = full_map head_of c.loop-i.invariant c.loop-i-test.false (good_length (e_float binary64) 256 c.args.t1 _ c.well_formed.0) (λ k l. refl); demand = full_map demand_of c.loop-i.invariant c.loop-i-test.false (good_length (e_float binary64) 256 c.args.t2 _ c.well_formed.1.0) (λ k l. refl); demand_flow = full_map demand_flow_of c.loop-i.invariant c.loop-i-test.false (good_length (e_float binary64) 256 c.args.t3 _ c.well_formed.1.1.0) (λ k l. refl) }
+returns c = record { head = full_map head_of c.loop-i.invariant c.loop-i-test.false (good_length (e_float binary64) 256 c.args.heads _ c.well_formed.0) (λ k l. refl); demand = full_map demand_of c.loop-i.invariant c.loop-i-test.false (good_length (e_float binary64) 256 c.args.demands _ c.well_formed.1.0) (λ k l. refl); demand_flow = full_map demand_flow_of c.loop-i.invariant c.loop-i-test.false (good_length (e_float binary64) 256 c.args.demand_flows _ c.well_formed.1.1.0) (λ k l. refl) }

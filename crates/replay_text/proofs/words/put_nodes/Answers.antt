@@ -19,14 +19,14 @@ pub bounds-s-i : goal.bounds-s-i
 bounds-s-i c = omega (arith, c.requires.n_bound)
 
 pub put_node-o-requires : goal.put_node-o-requires
-put_node-o-requires c = omega (arith, c.requires.n_in_bounds, c.loop-i.invariant.1.place, nodes_length c.loop-i.i c.args.t4, put_same c.loop-i.invariant.1)
+put_node-o-requires c = omega (arith, c.requires.n_in_bounds, c.loop-i.invariant.1.place, nodes_length c.loop-i.i c.args.s, put_same c.loop-i.invariant.1)
 
 pub overflow_add-i : goal.overflow_add-i
 overflow_add-i c = omega (arith, c.requires.n_bound)
 
 pub loop-i-preserved : goal.loop-i-preserved
 loop-i-preserved c =
-    let s = c.args.t4 in
+    let s = c.args.s in
     let i = c.loop-i.i in
     let inv = c.loop-i.invariant.1 in
     (omega arith, put_as (nodes_more i s) (put_then inv (node_text (node_state_at s i)) c.put_node-o.ensures.out_after c.put_node-o.ensures.value (omega (arith, c.requires.n_in_bounds, inv.place, nodes_length i s, node_length (node_state_at s i), put_same inv, c.put_node-o.ensures.value))))
@@ -35,4 +35,4 @@ pub shape_of-out : goal.shape_of-out
 shape_of-out c = put_same c.loop-i.invariant.1
 
 pub returns : goal.returns
-returns c = let e : c.loop-i.i ≡ c.args.n = omega (arith, c.loop-i.invariant.0) in record { value = (put_all (λ (k : ℕ). nodes_text k c.args.t4) e c.loop-i.invariant.1).0; out_after = (put_all (λ (k : ℕ). nodes_text k c.args.t4) e c.loop-i.invariant.1).1 }
+returns c = let e : c.loop-i.i ≡ c.args.n = omega (arith, c.loop-i.invariant.0) in record { value = (put_all (λ (k : ℕ). nodes_text k c.args.s) e c.loop-i.invariant.1).0; out_after = (put_all (λ (k : ℕ). nodes_text k c.args.s) e c.loop-i.invariant.1).1 }

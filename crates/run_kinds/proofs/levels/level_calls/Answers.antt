@@ -9,11 +9,6 @@ use borrow.Author.Rules.{rules}
 use Rattle.run_kinds.proofs.Standing.{levels_few, list_none, list_put, list_all}
 use Rattle.run_kinds.proofs.levels.level_calls.Goals as goal
 
-few : (c : goal.After-level-count-UNKNOWN) → c.level_count-count.result ≤ 1
-few c =
-    let a = c.args in
-    rw c.level_count-count.ensures (levels_few (ltb c.tank_number-k.result a.tank-count) (get_or a.t1 c.loop-i.i blank_control).condition)
-
 pub loop-i-init : goal.loop-i-init
 loop-i-init c = list_none c.no_tanks-tanks.ensures c.no_targets-targets.ensures
 
@@ -42,7 +37,10 @@ pub bounds-targets-count : goal.bounds-targets-count
 bounds-targets-count c = omega (arith, c.requires.n_bound, c.loop-i.invariant.few, c.loop-i.invariant.wide)
 
 pub overflow_add-count : goal.overflow_add-count
-overflow_add-count c = omega (arith, c.requires.n_bound, c.loop-i.invariant.few, few c)
+overflow_add-count c =
+    let few : c.level_count-count.result ≤ 1 = let a = c.args in
+    rw c.level_count-count.ensures (levels_few (ltb c.tank_number-k.result a.tank_count) (get_or a.t1 c.loop-i.i blank_control).condition) in
+    omega (arith, c.requires.n_bound, c.loop-i.invariant.few, few)
 
 pub loop-i-preserved : goal.loop-i-preserved
 loop-i-preserved c =

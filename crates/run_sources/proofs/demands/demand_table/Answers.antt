@@ -34,7 +34,7 @@ loop-i-preserved c =
     let start = c in
     let l = c.loop-i in
     let ds = c in
-    let table = start.args.t1 in
+    let table = start.args.table in
     let i = l.i in (
       fill l.invariant.0 (omega (arith, start.requires)) (c.how_many.ensures ∙ ap (λ (l : List Demand). length l) ds.demands_of-demands.ensures),
       (

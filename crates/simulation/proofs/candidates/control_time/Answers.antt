@@ -7,17 +7,17 @@ use Rattle.run_kinds.proofs.Standing.{levels_inside, levels_laid_few}
 use Rattle.simulation.proofs.ControlTime.{control_time_held}
 use Rattle.simulation.proofs.candidates.control_time.Goals as goal
 
-nodes_inside : (c : goal.After-tank-table-UNKNOWN) → TanksInside c.tank_table-t.result.nodes c.tank_table-t.result.count
-nodes_inside c = tanks_inside c.tank_table-t.ensures c.requires.few.nodes
-
 pub level_calls-levels-requires : goal.level_calls-levels-requires
-level_calls-levels-requires c = record { n_bound = c.requires.few.controls; tanks_inside = nodes_inside c }
+level_calls-levels-requires c =
+    let nodes_inside : TanksInside c.tank_table-t.result.nodes c.tank_table-t.result.count = tanks_inside c.tank_table-t.ensures c.requires.few.nodes in
+    record { n_bound = c.requires.few.controls; tanks_inside = nodes_inside }
 
 pub next_level-by_level-requires : goal.next_level-by_level-requires
 next_level-by_level-requires c =
+    let nodes_inside : TanksInside c.tank_table-t.result.nodes c.tank_table-t.result.count = tanks_inside c.tank_table-t.ensures c.requires.few.nodes in
     let a = c in
     let h = c.level_calls-levels.ensures in
-    record { n_bound = omega (arith, levels_laid_few a.args.p.controls a.args.p.counts.controls _ _ h, a.requires.few.controls); levels_inside = levels_inside h (nodes_inside c) }
+    record { n_bound = omega (arith, levels_laid_few a.args.p.controls a.args.p.counts.controls _ _ h, a.requires.few.controls); levels_inside = levels_inside h (nodes_inside) }
 
 pub next_time-by_time-requires : goal.next_time-by_time-requires
 next_time-by_time-requires c =

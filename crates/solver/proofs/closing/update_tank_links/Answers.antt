@@ -10,7 +10,7 @@ use Rattle.solver.proofs.closing.update_tank_links.Goals as goal
 long : (c : goal.Start) → length c.args.s.links ≡ 384
 long c = mapped _ c.args.s.links 384 c.well_formed.1.0.1.1.1.0.1.0.1
 
-there : (c : goal.After-lay-groups-UNKNOWN) → Stands c.args.p c.lay_groups.new.1.1.1.1.0 c.lay_groups.new.1.1.1.1.1.0 c.lay_groups.new.1.1.1.1.1.1.0
+there : (c : goal.After-lay-groups-UNKNOWN) → Stands c.args.p c.lay_groups.new.begins c.lay_groups.new.middles c.lay_groups.new.links
 there c =
     let e = c.lay_groups.ensures in
     stands _ _ _ _ (laid_is c.requires c.tank_table-t.ensures _ _ _ c.no_places-begins.ensures c.no_middles-middles.ensures c.no_entries-links.ensures e.0 e.1.0 e.1.1)

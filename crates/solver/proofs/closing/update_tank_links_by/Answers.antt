@@ -7,19 +7,16 @@ use Rattle.solver.proofs.ByTable.{groups_inside, closed_by_is}
 use Rattle.run_tables.proofs.Inside.{tanks_inside}
 use Rattle.solver.proofs.closing.update_tank_links_by.Goals as goal
 
-long : (c : goal.Start) → length c.args.s.links ≡ 384
-long c = mapped _ c.args.s.links 384 c.well_formed.1.0.1.1.1.0.1.0.1
-
-there : (c : goal.Start) → Stands c.args.p c.args.begins.now c.args.middles.now c.args.links.now
-there c = stands c.args.p c.args.begins.now c.args.middles.now c.args.links.now c.requires.links_value
-
 pub close_by-requires : goal.close_by-requires
 close_by-requires c =
+    let there : Stands c.args.p c.args.begins.now c.args.middles.now c.args.links.now = stands c.args.p c.args.begins.now c.args.middles.now c.args.links.now c.requires.links_value in
     let t = c.tank_table-t.ensures in
     let a = c in
-    record { tanks_inside = tanks_inside t a.requires.tables_fit.few.nodes; groups_inside = groups_inside a.requires.tables_fit t (there a) }
+    record { tanks_inside = tanks_inside t a.requires.tables_fit.few.nodes; groups_inside = groups_inside a.requires.tables_fit t (there) }
 
 pub returns : goal.returns
 returns c =
+    let long : length c.args.s.links ≡ 384 = mapped _ c.args.s.links 384 c.well_formed.1.0.1.1.1.0.1.0.1 in
+    let there : Stands c.args.p c.args.begins.now c.args.middles.now c.args.links.now = stands c.args.p c.args.begins.now c.args.middles.now c.args.links.now c.requires.links_value in
     let a = c in
-    closed_by_is a.requires.tables_fit c.tank_table-t.ensures (there a) a.args.s (long a) c.close_by.result c.close_by.ensures
+    closed_by_is a.requires.tables_fit c.tank_table-t.ensures (there) a.args.s (long) c.close_by.result c.close_by.ensures

@@ -9,12 +9,6 @@ use Rattle.run_sources.proofs.Inside.{demands_inside, heads_inside}
 use Rattle.state.proofs.Patterned.{patterns_packed}
 use Rattle.state.proofs.patterns.apply_patterns.Goals as goal
 
-room : (c : goal.Start) → c.args.t1.counts.nodes ≤ length c.args.s.nodes
-room c = omega (arith, c.requires.few.nodes, mapped _ c.args.s.nodes 256 c.well_formed.1.0.1.1.0.1.0.1)
-
-long : (c : goal.Start) → length c.args.t1.multipliers ≡ 5376
-long c = search rules
-
 pub demand_table-d-requires : goal.demand_table-d-requires
 demand_table-d-requires c = c.requires.few.nodes
 
@@ -23,18 +17,14 @@ head_table-h-requires c = c.requires.few.nodes
 
 pub fill_patterns-requires : goal.fill_patterns-requires
 fill_patterns-requires c =
-    let few = c.requires.few.nodes in record { demands_inside = ((
-      demands_inside c.demand_table-d.ensures few,
-      heads_inside c.head_table-h.ensures few,
-    )).0; heads_inside = ((
-      demands_inside c.demand_table-d.ensures few,
-      heads_inside c.head_table-h.ensures few,
-    )).1 }
+    let few = c.requires.few.nodes in record { demands_inside = demands_inside c.demand_table-d.ensures few; heads_inside = heads_inside c.head_table-h.ensures few }
 
 pub returns : goal.returns
 returns c =
+    let room : c.args.p.counts.nodes ≤ length c.args.s.nodes = omega (arith, c.requires.few.nodes, mapped _ c.args.s.nodes 256 c.well_formed.1.0.1.1.0.1.0.1) in
+    let long : length c.args.p.multipliers ≡ 5376 = search rules in
     let a = c in
-    patterns_packed a.args.t1 _ a.args.s _
-    (record { lengths = c.pattern_lengths-lengths.ensures; multipliers = refl; long = long a; start = refl; timestep = refl; scale = refl; pda = refl; n = refl; demands = c.demand_table-d.ensures; heads = c.head_table-h.ensures })
+    patterns_packed a.args.p _ a.args.s _
+    (record { lengths = c.pattern_lengths-lengths.ensures; multipliers = refl; long = long; start = refl; timestep = refl; scale = refl; pda = refl; n = refl; demands = c.demand_table-d.ensures; heads = c.head_table-h.ensures })
     (record { head = sym c.heads_of-heads.ensures; demand = sym c.demands_of-demands.ensures; demand_flow = sym c.demand_flows_of-demand_flows.ensures })
-    (sym c.no_multipliers-table.ensures) (room a) c.fill_patterns.ensures c.nodes_from-patterned.ensures refl refl
+    (sym c.no_multipliers-table.ensures) (room) c.fill_patterns.ensures c.nodes_from-patterned.ensures refl refl

@@ -6,7 +6,7 @@ use lib.ListN.{length, length-replicate}
 use Rattle.tank_links.proofs.Judging.{Own, own, first_fails, second_fails, third_tells}
 use Rattle.tank_links.proofs.judged.is_laid_out.Goals as goal
 
-laid : (c : goal.After-lay-out-UNKNOWN) → Own c.args.p c.lay_out-n.new.1.0 c.lay_out-n.new.1.1.0 c.lay_out-n.new.1.1.1.0 c.lay_out-n.result
+laid : (c : goal.After-lay-out-UNKNOWN) → Own c.args.p c.lay_out-n.new.begins c.lay_out-n.new.middles c.lay_out-n.new.links c.lay_out-n.result
 laid c =
     let e = c.lay_out-n.ensures in
     own c.args.p c.requires _ _ _ (ap length c.no_places-own_begins.ensures ∙ length-replicate {A = ℕ} 257 0) (ap length c.no_middles-own_middles.ensures ∙ length-replicate {A = ℕ} 256 0) (ap length c.no_entries-own_links.ensures ∙ length-replicate {A = ℕ} 768 0) e.0 e.1.0 e.1.1.0 e.1.1.1

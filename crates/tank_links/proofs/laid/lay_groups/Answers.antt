@@ -10,8 +10,8 @@ use Rattle.tank_links.proofs.laid.lay_groups.Goals as goal
 
 -- there is room for the group of the next tank
 fits : (c : goal.In-loop-k)
-    → c.loop-k.at + length (on_chain c.chain_links.new.1.1.0 c.chain_links.new.1.1.1.0 c.args.nodes.now c.loop-k.k)
-    + length (on_chain c.chain_links.new.1.1.1.1.0 c.chain_links.new.1.1.1.1.1.0 c.args.nodes.now c.loop-k.k) ≤ 768
+    → c.loop-k.at + length (on_chain c.chain_links.new.into c.chain_links.new.next_into c.args.nodes.now c.loop-k.k)
+    + length (on_chain c.chain_links.new.out c.chain_links.new.next_out c.args.nodes.now c.loop-k.k) ≤ 768
 fits c =
     let a = c in
     let e = c.chain_links.ensures in
@@ -98,10 +98,7 @@ returns c =
     let a = c in
     let e = c.chain_links.ensures in
     let done = laying_ended c.loop-k.invariant c.loop-k-test.false in
-    let I = on_chain c.chain_links.new.1.1.0 c.chain_links.new.1.1.1.0 a.args.nodes.now in
-    let O = on_chain c.chain_links.new.1.1.1.1.0 c.chain_links.new.1.1.1.1.1.0 a.args.nodes.now in
+    let I = on_chain c.chain_links.new.into c.chain_links.new.next_into a.args.nodes.now in
+    let O = on_chain c.chain_links.new.out c.chain_links.new.next_out a.args.nodes.now in
     let i = on_into a.args.table e.0 e.1 a.requires.tanks_inside.0 in
-    let o = on_out a.args.table e.0 e.1 a.requires.tanks_inside.0 in record { begins_after = done.0 ∙ ap (sets a.args.begins.now 0) (begins_same I O (into_in a.args.table a.args.count a.args.nodes.now) (out_of_in a.args.table a.args.count a.args.nodes.now) a.args.n i o); middles_after = (
-        done.1 ∙ ap (sets a.args.middles.now 0) (middles_same I O (into_in a.args.table a.args.count a.args.nodes.now) (out_of_in a.args.table a.args.count a.args.nodes.now) a.args.n i o),
-        done.2 ∙ ap (sets a.args.links.now 0) (group_same I O (into_in a.args.table a.args.count a.args.nodes.now) (out_of_in a.args.table a.args.count a.args.nodes.now) a.args.n i o a.args.n (omega arith)),
-      ); links_after =  }
+    let o = on_out a.args.table e.0 e.1 a.requires.tanks_inside.0 in record { begins_after = done.0 ∙ ap (sets a.args.begins.now 0) (begins_same I O (into_in a.args.table a.args.count a.args.nodes.now) (out_of_in a.args.table a.args.count a.args.nodes.now) a.args.n i o); middles_after = done.1 ∙ ap (sets a.args.middles.now 0) (middles_same I O (into_in a.args.table a.args.count a.args.nodes.now) (out_of_in a.args.table a.args.count a.args.nodes.now) a.args.n i o); links_after = done.2 ∙ ap (sets a.args.links.now 0) (group_same I O (into_in a.args.table a.args.count a.args.nodes.now) (out_of_in a.args.table a.args.count a.args.nodes.now) a.args.n i o a.args.n (omega arith)) }
