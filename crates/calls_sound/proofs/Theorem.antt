@@ -38,13 +38,13 @@ pub state_of : (p : Project) (s : State) → in_order p s ≡ true → StateFit 
 unfolding in_order
 state_of p s e = state_fit p s (both_right (tables_ok p) (state_ok p s) e)
 
-in_order : (p : Project) (s : State) → tables_ok p ≡ true → StateFit p s → in_order p s ≡ true
+in_order_lem : (p : Project) (s : State) → tables_ok p ≡ true → StateFit p s → in_order p s ≡ true
 unfolding in_order
-in_order p s e f = rw (e, state_ok_lem p s f)
+in_order_lem p s e f = rw (e, state_ok_lem p s f)
 
 -- a call that keeps the facts keeps the order
 pub kept : (p : Project) (s u : State) → in_order p s ≡ true → (TablesFit p → StateFit p s → StateFit p u) → in_order p u ≡ true
-kept p s u e h = let t = tables_of p s e in in_order p u t (h (tables_fit p t) (state_of p s e))
+kept p s u e h = let t = tables_of p s e in in_order_lem p u t (h (tables_fit p t) (state_of p s e))
 
 -- ---- the start
 pub start_in_order : (p : Project) → (start p).number ≡ 0 → in_order p (start p).state ≡ true
@@ -53,7 +53,7 @@ start_in_order p = go (tables_ok p) refl
   where
     go : (b : Bool) → tables_ok p ≡ b → (cond b (gives 0 (new_with_initial_values p)) (gives 10 blank_state)).number ≡ 0
         → in_order p (cond b (gives 0 (new_with_initial_values p)) (gives 10 blank_state)).state ≡ true
-    go true e z = in_order p (new_with_initial_values p) e (start_fits (tables_fit p e))
+    go true e z = in_order_lem p (new_with_initial_values p) e (start_fits (tables_fit p e))
     go false e z = absurd (no 10 (lit≤ tt) z)
       where
         no : (n : ℕ) → 1 ≤ n → n ≡ 0 → ⊥

@@ -1,7 +1,10 @@
 #![tactic(auto)]
-// The names of the files that a test program reads: case000, case001, ..
+// The files that a test program reads, case000, case001, ..: their names, and how they are opened.
 ghost use Rattle.std.specs.Prelude.{◌≡◌};
 ghost use Rattle.case_names.specs.Names.{case_name};
+
+use std::rt::Files;
+use std::{fs, str};
 
 // A number past 999 goes by its last three digits.
 pub fn case_name(i: u32) -> [u8; 7]
@@ -12,4 +15,11 @@ pub fn case_name(i: u32) -> [u8; 7]
     name[5] = (48 + i / 10 % 10) as u8;
     name[6] = (48 + i % 10) as u8;
     name
+}
+
+// The file of case i, to be read; none where it cannot be opened.
+pub fn open_case<R: Files>(rt: &R, i: u32) -> Option<R::File> {
+    let name = case_name(i);
+    let path = str::from_utf8(&name).unwrap();
+    fs::open(rt, path).ok()
 }

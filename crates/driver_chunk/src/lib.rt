@@ -80,7 +80,7 @@ fn state_of(
     settings: [f64; 384],
     clock: Clock,
 ) -> State
-    ensures { lists_of result ≡ record { heads = heads; demands = demands; demand-flows = demand_flows; links = record { flows = flows; statuses = statuses; settings = settings }; clock = clock } }
+    ensures { lists_of result ≡ record { heads = heads; demands = demands; demand_flows = demand_flows; links = record { flows = flows; statuses = statuses; settings = settings }; clock = clock } }
 {
     let nodes = nodes_from(heads, demands, demand_flows);
     let links = links_from(flows, statuses, settings);

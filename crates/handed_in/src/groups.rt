@@ -1,8 +1,8 @@
 // The table of the tanks' links: laid out over words that show where nothing was written, printed, and changed by one word.
 use crate::ask::print;
 use crate::change::Change;
-use libc::STDOUT_FILENO;
 use model::Project;
+use std::io;
 
 // What each word is before the table is laid out.
 const MARKER: u32 = 4294967295;
@@ -77,20 +77,20 @@ pub fn lay_out_number(p: Project) -> u32 {
     HAS_WRITTEN
 }
 
-fn print_part(t: TankLinks, what: u32) {
+fn print_part(rt: &impl Print, t: TankLinks, what: u32) -> io::Result<()> {
     let mut i = 0;
     while i < SHOWN {
-        print(word_of(t, what, i));
+        print(rt, word_of(t, what, i))?;
         i += 1;
     }
-    io::write_all(STDOUT_FILENO, b"\n");
+    rt.print("\n")
 }
 
 // The places, the middles and the link numbers, a line each.
-pub fn print_table(t: TankLinks) {
-    print_part(t, 56);
-    print_part(t, 57);
-    print_part(t, 58);
+pub fn print_table(rt: &impl Print, t: TankLinks) -> io::Result<()> {
+    print_part(rt, t, 56)?;
+    print_part(rt, t, 57)?;
+    print_part(rt, t, 58)
 }
 
 // A place, a middle or a link number changed, or two link numbers exchanged: the low word is then the other's index.

@@ -16,57 +16,75 @@ mod state;
 use ask::print_numbers;
 use change::Change;
 use groups::{TankLinks, changed_table, laid_out, print_table};
-use libc::STDIN_FILENO;
 use model::*;
 use project::changed_project;
+use replay_input::read_full;
 use state::changed_state;
+use std::io;
+use std::io::Read;
 
 const MOST_IMAGES: u32 = 1000;
 
-fn read_change() -> Change {
-    let what = read_word();
-    let index = read_word() as usize;
-    let low = read_word();
-    let high = read_word();
-    Change {
+fn read_change<R: Read>(from: &mut R) -> io::Result<Change> {
+    let what = read_word(from)?;
+    let index = read_word(from)? as usize;
+    let low = read_word(from)?;
+    let high = read_word(from)?;
+    Ok(Change {
         what: what,
         index: index,
         low: low,
         high: high,
-    }
+    })
 }
 
 // Makes the change that comes next, and asks every call.
-fn run_change(p: Project, s: State, t: TankLinks) {
-    let change = read_change();
+fn run_change<R: Read>(
+    from: &mut R,
+    rt: &impl Print,
+    p: Project,
+    s: State,
+    t: TankLinks,
+) -> io::Result<()> {
+    let change = read_change(from)?;
     print_numbers(
+        rt,
         changed_project(p, change),
         changed_state(s, change),
         changed_table(t, change),
-    );
+    )
 }
 
-fn run_changes(p: Project, s: State, t: TankLinks, n: u32) {
+fn run_changes<R: Read>(
+    from: &mut R,
+    rt: &impl Print,
+    p: Project,
+    s: State,
+    t: TankLinks,
+    n: u32,
+) -> io::Result<()> {
     let mut i = 0;
     while i < n {
-        run_change(p, s, t);
+        run_change(from, rt, p, s, t)?;
         i += 1;
     }
+    Ok(())
 }
 
 // A word of the input; 0 at its end.
-fn read_word() -> u32 {
+fn read_word<R: Read>(from: &mut R) -> io::Result<u32> {
     let mut bytes = [0u8; 4];
-    io::read_full(STDIN_FILENO, &mut bytes);
-    words::word_at(&bytes, 0)
+    read_full(from, &mut bytes)?;
+    Ok(words::word_at(&bytes, 0))
 }
 
 // Reads n bytes to the start of the buffer, where it has room for them.
-fn read_bytes(n: usize, bytes: &mut [u8]) {
+fn read_bytes<R: Read>(from: &mut R, n: usize, bytes: &mut [u8]) -> io::Result<()> {
     if bytes.len() < n {
-        return;
+        return Ok(());
     }
-    io::read_full(STDIN_FILENO, &mut bytes[0..n]);
+    read_full(from, &mut bytes[0..n])?;
+    Ok(())
 }
 
 // The project of the image in the first n bytes.
@@ -87,34 +105,45 @@ fn project_of(k: usize, table: &[u32]) -> Project {
 }
 
 // Makes the changes of the image that comes next, and answers whether there is one: at the end of the input its count is 0.
-fn run_image(bytes: &mut [u8], table: &mut [u32]) -> bool {
-    let n = (read_word() as usize) * 4;
+fn run_image<R: Read>(
+    from: &mut R,
+    rt: &impl Print,
+    bytes: &mut [u8],
+    table: &mut [u32],
+) -> io::Result<bool> {
+    let n = (read_word(from)? as usize) * 4;
     if n == 0 {
-        return false;
+        return Ok(false);
     }
-    read_bytes(n, bytes);
+    read_bytes(from, n, bytes)?;
     let p = decoded(n, bytes, table);
     let started = calls::new_with_initial_values(p);
     let state = started.state;
     let laid = laid_out(p);
-    print_table(laid);
-    let count = read_word();
-    run_changes(p, state, laid, count);
-    true
+    print_table(rt, laid)?;
+    let count = read_word(from)?;
+    run_changes(from, rt, p, state, laid, count)?;
+    Ok(true)
 }
 
-fn run_images(bytes: &mut [u8], table: &mut [u32]) {
+fn run_images<R: Read>(
+    from: &mut R,
+    rt: &impl Print,
+    bytes: &mut [u8],
+    table: &mut [u32],
+) -> io::Result<()> {
     let mut i = 0;
     while i < MOST_IMAGES {
-        if !run_image(bytes, table) {
-            return;
+        if !run_image(from, rt, bytes, table)? {
+            return Ok(());
         }
         i += 1;
     }
+    Ok(())
 }
 
-fn main() {
-    let mut bytes = io::large_buffer();
+fn main(rt: HostRuntime) -> io::Result<()> {
+    let mut bytes = [0u8; 65536];
     let mut table = [0u32; 16384];
-    run_images(&mut bytes, &mut table);
+    run_images(&mut rt.stdin(), &rt, &mut bytes, &mut table)
 }

@@ -2,37 +2,22 @@
 // Document 01's instants, run on the compiled code: a line each, its answer behind it. A number is shown by the bits of its f64.
 use clock::{Times, clock_time, smaller_positive};
 use control::candidate;
-use libc::STDOUT_FILENO;
 use model::*;
 use number::ComparisonOperator;
 use number::constants::MAX;
+use std::io;
 use tank::{CubicFeet, CubicFeetPerSecond, Feet, Tank};
 
-fn put(text: &[u8]) {
-    io::write_all(STDOUT_FILENO, text);
+fn seconds(rt: &impl Print, what: &str, n: u64) -> io::Result<()> {
+    println!(rt; "{what}: {n}")
 }
 
-fn seconds(what: &[u8], n: u64) {
-    put(what);
-    put(b": ");
-    io::print_decimal(STDOUT_FILENO, n);
-    put(b"\n");
+fn bits(rt: &impl Print, what: &str, x: f64) -> io::Result<()> {
+    println!(rt; "{what}: {:016x}", number::to_bits(x))
 }
 
-fn bits(what: &[u8], x: f64) {
-    put(what);
-    put(b": ");
-    io::print_hex(STDOUT_FILENO, number::to_bits(x), 16);
-    put(b"\n");
-}
-
-fn truth(what: &[u8], b: bool) {
-    put(what);
-    if b {
-        put(b": true\n");
-    } else {
-        put(b": false\n");
-    }
+fn truth(rt: &impl Print, what: &str, b: bool) -> io::Result<()> {
+    println!(rt; "{what}: {b}")
 }
 
 // "Tank T: elevation 100, least 0, greatest 12, diameter 20."
@@ -60,20 +45,25 @@ fn head_after(demand: f64) -> f64 {
     head.0
 }
 
-fn tanks() {
-    seconds(b"level 10, flow 1", fill_or_drain(10.0, 1.0));
-    seconds(b"level 10, flow 2", fill_or_drain(10.0, 2.0));
-    seconds(b"level 12, flow -1, to least", reach(12.0, 0.0, -1.0));
-    seconds(b"level 12, flow -1, to greatest", reach(12.0, 12.0, -1.0));
+fn tanks(rt: &impl Print) -> io::Result<()> {
+    seconds(rt, "level 10, flow 1", fill_or_drain(10.0, 1.0))?;
+    seconds(rt, "level 10, flow 2", fill_or_drain(10.0, 2.0))?;
+    seconds(rt, "level 12, flow -1, to least", reach(12.0, 0.0, -1.0))?;
     seconds(
-        b"level 12, flow -1, fill or drain",
+        rt,
+        "level 12, flow -1, to greatest",
+        reach(12.0, 12.0, -1.0),
+    )?;
+    seconds(
+        rt,
+        "level 12, flow -1, fill or drain",
         fill_or_drain(12.0, -1.0),
-    );
-    seconds(b"level 11.999, flow 1", fill_or_drain(11.999, 1.0));
-    seconds(b"level 11.998, flow 1", fill_or_drain(11.998, 1.0));
-    seconds(b"level 11.998, flow 2", fill_or_drain(11.998, 2.0));
-    bits(b"head 110, demand 1, 3600 s", head_after(1.0));
-    bits(b"head 110, demand -1, 3600 s", head_after(-1.0));
+    )?;
+    seconds(rt, "level 11.999, flow 1", fill_or_drain(11.999, 1.0))?;
+    seconds(rt, "level 11.998, flow 1", fill_or_drain(11.998, 1.0))?;
+    seconds(rt, "level 11.998, flow 2", fill_or_drain(11.998, 2.0))?;
+    bits(rt, "head 110, demand 1, 3600 s", head_after(1.0))?;
+    bits(rt, "head 110, demand -1, 3600 s", head_after(-1.0))
 }
 
 // A control's candidate. The node does not matter to a time.
@@ -94,63 +84,73 @@ fn due(condition: ControlCondition, time: u32, clock: u64) -> u64 {
     candidate(condition, node, state, time, clock)
 }
 
-fn controls() {
+fn controls(rt: &impl Print) -> io::Result<()> {
     let at_clock = due(ControlCondition::ClockTime { seconds: 1800 }, 1800, 1800);
-    seconds(b"clock control 1800 at 1800", at_clock);
-    seconds(b"the same, dropped", smaller_positive(at_clock, MAX));
+    seconds(rt, "clock control 1800 at 1800", at_clock)?;
+    seconds(rt, "the same, dropped", smaller_positive(at_clock, MAX))?;
     seconds(
-        b"clock control 1800 at 3600",
+        rt,
+        "clock control 1800 at 3600",
         due(ControlCondition::ClockTime { seconds: 1800 }, 3600, 3600),
-    );
+    )?;
     seconds(
-        b"time control 900 at 900",
+        rt,
+        "time control 900 at 900",
         due(ControlCondition::Time { seconds: 900 }, 900, 900),
-    );
+    )?;
     seconds(
-        b"time control 900 at 901",
+        rt,
+        "time control 900 at 901",
         due(ControlCondition::Time { seconds: 900 }, 901, 901),
-    );
-    seconds(b"start clock 82800, time 7200", clock_time(82800, 7200));
+    )?;
+    seconds(rt, "start clock 82800, time 7200", clock_time(82800, 7200))
 }
 
-fn comparisons() {
+fn comparisons(rt: &impl Print) -> io::Result<()> {
     truth(
-        b"0.0005 = 0",
+        rt,
+        "0.0005 = 0",
         ComparisonOperator::Eq.compare_f64(0.0005, 0.0),
-    );
+    )?;
     truth(
-        b"0.0005 >= 0",
+        rt,
+        "0.0005 >= 0",
         ComparisonOperator::Ge.compare_f64(0.0005, 0.0),
-    );
+    )?;
     truth(
-        b"0.0005 <= 0",
+        rt,
+        "0.0005 <= 0",
         ComparisonOperator::Le.compare_f64(0.0005, 0.0),
-    );
+    )?;
     truth(
-        b"0.0005 <> 0",
+        rt,
+        "0.0005 <> 0",
         ComparisonOperator::Ne.compare_f64(0.0005, 0.0),
-    );
+    )?;
     truth(
-        b"0.0005 > 0",
+        rt,
+        "0.0005 > 0",
         ComparisonOperator::Gt.compare_f64(0.0005, 0.0),
-    );
+    )?;
     truth(
-        b"0.0005 < 0",
+        rt,
+        "0.0005 < 0",
         ComparisonOperator::Lt.compare_f64(0.0005, 0.0),
-    );
+    )
 }
 
-fn pattern_row() {
+fn pattern_row(rt: &impl Print) -> io::Result<()> {
     let multipliers = [0.5, 1.5];
     let at = period(3600, 3600, 7200);
     bits(
-        b"pattern start and timestep 3600, time 7200",
+        rt,
+        "pattern start and timestep 3600, time 7200",
         multiplier_at(&multipliers, at),
-    );
+    )
 }
 
 // "Fast path, report 7,200, duration 10,000: 7,200 then 2,800."
-fn fast_path() {
+fn fast_path(rt: &impl Print) -> io::Result<()> {
     let times = Times {
         duration: 10000,
         hydraulic: 0,
@@ -159,27 +159,29 @@ fn fast_path() {
         start_clock: 0,
         fast: true,
     };
-    seconds(b"fast path at 0", times.step_length(MAX, MAX, 0) as u64);
+    seconds(rt, "fast path at 0", times.step_length(MAX, MAX, 0) as u64)?;
     seconds(
-        b"fast path at 7200",
+        rt,
+        "fast path at 7200",
         times.step_length(MAX, MAX, 7200) as u64,
-    );
+    )?;
     seconds(
-        b"fast path at 10000",
+        rt,
+        "fast path at 10000",
         times.step_length(MAX, MAX, 10000) as u64,
-    );
+    )
 }
 
 // "gap / flow of 0.49999999999999994 gives 0; flow 5e-324 with gap 1 gives MAX."
-fn gaps() {
+fn gaps(rt: &impl Print) -> io::Result<()> {
     let below_half = tank::gap_time(CubicFeet(0.9999999999999999), CubicFeetPerSecond(2.0));
-    seconds(b"gap / flow 0.49999999999999994", below_half);
+    seconds(rt, "gap / flow 0.49999999999999994", below_half)?;
     let never = tank::gap_time(CubicFeet(1.0), CubicFeetPerSecond(5e-324));
-    seconds(b"gap 1, flow 5e-324", never);
+    seconds(rt, "gap 1, flow 5e-324", never)
 }
 
 // The worked example's steps: T alone does not move, its demand being 0.
-fn worked_example() {
+fn worked_example(rt: &impl Print) -> io::Result<()> {
     let times = Times {
         duration: 10000,
         hydraulic: 5000,
@@ -190,25 +192,28 @@ fn worked_example() {
     };
     let tanks = fill_or_drain(10.0, 0.0);
     seconds(
-        b"worked example at 0",
+        rt,
+        "worked example at 0",
         times.step_length(tanks, MAX, 0) as u64,
-    );
+    )?;
     seconds(
-        b"worked example at 3600",
+        rt,
+        "worked example at 3600",
         times.step_length(tanks, MAX, 3600) as u64,
-    );
+    )?;
     seconds(
-        b"worked example at 7200",
+        rt,
+        "worked example at 7200",
         times.step_length(tanks, MAX, 7200) as u64,
-    );
+    )
 }
 
-fn main() {
-    tanks();
-    controls();
-    comparisons();
-    pattern_row();
-    fast_path();
-    gaps();
-    worked_example();
+fn main(rt: HostRuntime) -> io::Result<()> {
+    tanks(&rt)?;
+    controls(&rt)?;
+    comparisons(&rt)?;
+    pattern_row(&rt)?;
+    fast_path(&rt)?;
+    gaps(&rt)?;
+    worked_example(&rt)
 }

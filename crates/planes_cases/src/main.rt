@@ -4,7 +4,9 @@
 // or the planes; 3 (to planes) or 4 (from planes), the low and high word of the rows, and how often the call is made, at least once. Any other
 // word is passed over.
 // `compare/planes.py` makes the input and what has to come out.
-use libc::{STDIN_FILENO, STDOUT_FILENO};
+use replay_input::read_full;
+use std::io;
+use std::io::Read;
 
 const TO_PLANES: u32 = 3;
 
@@ -18,52 +20,46 @@ struct Sizes {
 }
 
 // A word of the input; 0 at its end.
-fn read_word() -> u32 {
+fn read_word<R: Read>(from: &mut R) -> io::Result<u32> {
     let mut bytes = [0u8; 4];
-    io::read_full(STDIN_FILENO, &mut bytes);
-    words::word_at(&bytes, 0)
+    read_full(from, &mut bytes)?;
+    Ok(words::word_at(&bytes, 0))
 }
 
-fn read_rows() -> usize {
-    let low = read_word() as usize;
-    let high = read_word() as usize;
-    low + high * 0x1_0000_0000
+fn read_rows<R: Read>(from: &mut R) -> io::Result<usize> {
+    let low = read_word(from)? as usize;
+    let high = read_word(from)? as usize;
+    Ok(low + high * 0x1_0000_0000)
 }
 
 // Reads a count and that many bytes to the start of a buffer, and answers how many; none where it has no room for them.
-fn read_buffer(buffer: &mut [u8]) -> usize {
-    let n = read_word() as usize;
+fn read_buffer<R: Read>(from: &mut R, buffer: &mut [u8]) -> io::Result<usize> {
+    let n = read_word(from)? as usize;
     if buffer.len() < n {
-        return 0;
+        return Ok(0);
     }
-    io::read_full(STDIN_FILENO, &mut buffer[0..n])
+    read_full(from, &mut buffer[0..n])
 }
 
-fn print_byte(byte: u8) {
-    io::print_hex(STDOUT_FILENO, byte as u64, 2);
-}
-
-fn print_bytes(bytes: &[u8]) {
-    let mut i = 0;
-    while i < bytes.len() {
-        print_byte(bytes[i]);
-        i += 1;
+fn print_bytes(rt: &impl Print, bytes: &[u8]) -> io::Result<()> {
+    for byte in bytes {
+        print!(rt; "{byte:02x}")?;
     }
+    Ok(())
 }
 
 // The rows, both sizes and the number of a call, and on a line of its own what the second buffer holds.
-fn print_answer(rows: usize, first: usize, second: &[u8], number: u32) {
-    io::write_all(STDOUT_FILENO, b" planes, rows ");
-    io::print_decimal(STDOUT_FILENO, rows as u64);
-    io::write_all(STDOUT_FILENO, b", bytes ");
-    io::print_decimal(STDOUT_FILENO, first as u64);
-    io::write_all(STDOUT_FILENO, b" and ");
-    io::print_decimal(STDOUT_FILENO, second.len() as u64);
-    io::write_all(STDOUT_FILENO, b": ");
-    io::print_decimal(STDOUT_FILENO, number as u64);
-    io::write_all(STDOUT_FILENO, b"\n");
-    print_bytes(second);
-    io::write_all(STDOUT_FILENO, b"\n");
+fn print_answer(
+    rt: &impl Print,
+    rows: usize,
+    first: usize,
+    second: &[u8],
+    number: u32,
+) -> io::Result<()> {
+    let n = second.len();
+    println!(rt; " planes, rows {rows}, bytes {first} and {n}: {number}")?;
+    print_bytes(rt, second)?;
+    rt.print("\n")
 }
 
 fn call(code: u32, rows: usize, block: &mut [u8], planes: &mut [u8]) -> u32 {
@@ -84,61 +80,87 @@ fn repeated(code: u32, rows: usize, times: u32, block: &mut [u8], planes: &mut [
     number
 }
 
-fn run_call(code: u32, block: &mut [u8], planes: &mut [u8]) {
-    let rows = read_rows();
-    let times = read_word();
+fn run_call<R: Read>(
+    from: &mut R,
+    rt: &impl Print,
+    code: u32,
+    block: &mut [u8],
+    planes: &mut [u8],
+) -> io::Result<()> {
+    let rows = read_rows(from)?;
+    let times = read_word(from)?;
     let number = repeated(code, rows, times, block, planes);
     if code == TO_PLANES {
-        io::write_all(STDOUT_FILENO, b"to");
-        print_answer(rows, block.len(), planes, number);
-    } else {
-        io::write_all(STDOUT_FILENO, b"from");
-        print_answer(rows, planes.len(), block, number);
+        rt.print("to")?;
+        return print_answer(rt, rows, block.len(), planes, number);
     }
+    rt.print("from")?;
+    print_answer(rt, rows, planes.len(), block, number)
 }
 
 // Makes a call on the bytes that are lent.
-fn lend(code: u32, block: &mut [u8], planes: &mut [u8], sizes: Sizes) {
+fn lend<R: Read>(
+    from: &mut R,
+    rt: &impl Print,
+    code: u32,
+    block: &mut [u8],
+    planes: &mut [u8],
+    sizes: Sizes,
+) -> io::Result<()> {
     let n = sizes.block;
     let m = sizes.planes;
     if block.len() < n {
-        return;
+        return Ok(());
     }
     if planes.len() < m {
-        return;
+        return Ok(());
     }
-    run_call(code, &mut block[0..n], &mut planes[0..m]);
+    run_call(from, rt, code, &mut block[0..n], &mut planes[0..m])
 }
 
 // Does what the next order says, and answers the sizes after it.
-fn run_order(block: &mut [u8], planes: &mut [u8], sizes: Sizes) -> Sizes {
+fn run_order<R: Read>(
+    from: &mut R,
+    rt: &impl Print,
+    block: &mut [u8],
+    planes: &mut [u8],
+    sizes: Sizes,
+) -> io::Result<Sizes> {
     let mut after = sizes;
-    let code = read_word();
+    let code = read_word(from)?;
     if code == 1 {
-        after.block = read_buffer(block);
+        after.block = read_buffer(from, block)?;
     } else if code == 2 {
-        after.planes = read_buffer(planes);
+        after.planes = read_buffer(from, planes)?;
     } else if (code == TO_PLANES) | (code == FROM_PLANES) {
-        lend(code, block, planes, sizes);
+        lend(from, rt, code, block, planes, sizes)?;
     }
-    after
+    Ok(after)
 }
 
-fn run_orders(block: &mut [u8], planes: &mut [u8], n: u32) {
+fn run_orders<R: Read>(
+    from: &mut R,
+    rt: &impl Print,
+    block: &mut [u8],
+    planes: &mut [u8],
+    n: u32,
+) -> io::Result<()> {
     let mut sizes = Sizes {
         block: 0,
         planes: 0,
     };
     let mut i = 0;
     while i < n {
-        sizes = run_order(block, planes, sizes);
+        sizes = run_order(from, rt, block, planes, sizes)?;
         i += 1;
     }
+    Ok(())
 }
 
-fn main() {
+fn main(rt: HostRuntime) -> io::Result<()> {
     let mut block = [0u8; 8192];
     let mut planes = [0u8; 8192];
-    let n = read_word();
-    run_orders(&mut block, &mut planes, n);
+    let mut from = rt.stdin();
+    let n = read_word(&mut from)?;
+    run_orders(&mut from, &rt, &mut block, &mut planes, n)
 }

@@ -1,57 +1,66 @@
-// The run of a list that comes in by a descriptor.
+// The run of a list that comes in by a reader. A read or write that fails ends it with its error.
 use image::Decoded;
 use list_words::call_ok;
 use model::*;
 use replay_input::{read_bytes, read_call, read_image};
 use replay_text::{put_call_line, put_start_line};
+use std::io;
+use std::io::{Read, Write};
 
 // The number of a list that is cut or has another code.
 const BAD_LIST: u32 = 18;
 
-// Writes the first n bytes of a line.
-fn write(to: i32, out: &[u8], n: usize) {
+// Writes the first n bytes of a line, so that they are out before the next read, which may wait.
+fn write<W: Write>(to: &mut W, out: &[u8], n: usize) -> io::Result<()> {
     if n <= out.len() {
-        io::write_all(to, &out[..n]);
+        to.write_all(&out[..n])?;
     }
+    to.flush()
 }
 
-fn refuse(to: i32, out: &mut [u8], number: u32) {
+fn refuse<W: Write>(to: &mut W, out: &mut [u8], number: u32) -> io::Result<()> {
     let n = listing::put_refused_line(out, 0, number);
-    write(to, out, n);
+    write(to, out, n)
 }
 
 // Runs a call, prints its line, and answers the state after it.
-fn replay_call(to: i32, p: Project, s: State, call: &[u32], out: &mut [u8]) -> State {
+fn replay_call<W: Write>(
+    to: &mut W,
+    p: Project,
+    s: State,
+    call: &[u32],
+    out: &mut [u8],
+) -> io::Result<State> {
     let code = image_entry::word(call, 0);
     let o = list_call::first_call(p, s, call);
     let state = o.state;
     let n = put_call_line(out, code, o.number, o.length, o.truth, p.counts, state);
-    write(to, out, n);
-    state
+    write(to, out, n)?;
+    Ok(state)
 }
 
 // The list of n calls, read and run as they come.
-fn replay_calls(
-    from: i32,
-    to: i32,
+fn replay_calls<R: Read, W: Write>(
+    from: &mut R,
+    to: &mut W,
     p: Project,
     s: State,
     n: u32,
     table: &mut [u32],
     bytes: &mut [u8],
     out: &mut [u8],
-) {
+) -> io::Result<()> {
     let mut state = s;
     let mut i = 0;
     while i < n {
-        let k = read_call(from, bytes, table);
+        let k = read_call(from, bytes, table)?;
         if !call_ok(&table[..k]) {
-            refuse(to, out, BAD_LIST);
-            return;
+            return refuse(to, out, BAD_LIST);
         }
-        state = replay_call(to, p, state, &table[..k], out);
+        state = replay_call(to, p, state, &table[..k], out)?;
         i += 1;
     }
+    Ok(())
 }
 
 fn no_words() -> [u32; 16384] {
@@ -59,10 +68,10 @@ fn no_words() -> [u32; 16384] {
 }
 
 // What the image says. Its words are needed no longer than here.
-fn open_image(from: i32, bytes: &mut [u8]) -> Decoded {
+fn open_image<R: Read>(from: &mut R, bytes: &mut [u8]) -> io::Result<Decoded> {
     let mut words = no_words();
-    let n = read_image(from, bytes, &mut words);
-    image::decode(&words[..n])
+    let n = read_image(from, bytes, &mut words)?;
+    Ok(image::decode(&words[..n]))
 }
 
 // Room for the words of a call: a load has a code, a count, and at most 1,282 words, with which the longest is refused.
@@ -76,22 +85,26 @@ pub fn line_space() -> [u8; 32768] {
 }
 
 // Reads an image and a list of calls, and prints the transcript: the start, and each call in turn. The table is for the words of a call.
-pub fn transcribe(from: i32, to: i32, table: &mut [u32], bytes: &mut [u8], out: &mut [u8]) {
-    let read = open_image(from, bytes);
+pub fn transcribe<R: Read, W: Write>(
+    from: &mut R,
+    to: &mut W,
+    table: &mut [u32],
+    bytes: &mut [u8],
+    out: &mut [u8],
+) -> io::Result<()> {
+    let read = open_image(from, bytes)?;
     let fault = read.fault;
     let project = read.project;
     if fault != 0 {
-        refuse(to, out, fault);
-        return;
+        return refuse(to, out, fault);
     }
     let started = calls::new_with_initial_values(project);
     let state = started.state;
     let n = put_start_line(out, project.counts, state);
-    write(to, out, n);
-    if !read_bytes(from, bytes, 0, 4) {
-        refuse(to, out, BAD_LIST);
-        return;
+    write(to, out, n)?;
+    if !read_bytes(from, bytes, 0, 4)? {
+        return refuse(to, out, BAD_LIST);
     }
     let calls = words::word_at(bytes, 0);
-    replay_calls(from, to, project, state, calls, table, bytes, out);
+    replay_calls(from, to, project, state, calls, table, bytes, out)
 }

@@ -142,7 +142,7 @@ module _ {f : ℕ → ℕ} {n : ℕ} where
       made j l true e =
           let q : f i ≡ j = eqb-true (f i) j e in
           rw (e, ← q, get_or-set_same first (f i) i 0 (omega (arith, c.wide)))
-          (refl, low, rw (get_or-set_same next i (get_or first (f i) 0) 0 (omega (arith, c.long))) (old (f i) h))
+          (refl, low, rw (get_or-set_same next i (get_or first (f i) 0) 0 (omega (arith, c.long))) (subst (λ (x : ℕ). Chain next' (get_or first (f i) 0) (from (here f x) (suc i) m)) q (old (f i) h)))
       made j l false e = rw (e, get_or-set_other first (f i) j i 0 (λ q. eqb-false (f i) j e (sym q))) (old j l)
 
   pub chained_put : {i : ℕ} {first next : List ℕ} → Chained f n i first next → 0 < i → n ≤ 384 → f (i - 1) < 256

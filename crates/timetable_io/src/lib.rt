@@ -1,47 +1,56 @@
 #![tactic(auto)]
-// The program `timetable` between two descriptors: it reads an image and writes its timetable. What stands behind the image, the loads, is not read.
+// The program `timetable` between a reader and a writer: it reads an image and writes its timetable. What stands behind the image, the loads, is not read.
 // This crate only moves bytes; what they are is put together by `replay_input`, `image` and `timetable_chunk`. No contract can say what is read or
 // written: the law `printed-is` of `timetable_chunk` says that the chunks' texts, written one after the other, are the timetable.
+// A read or write that fails ends it with its error.
 ghost use Rattle.std.specs.Prelude.{◌≤◌, length};
 
 use model::Project;
+use std::io;
+use std::io::{Read, Write};
 
 // Writes the first n bytes of a buffer.
-fn write(to: i32, out: &[u8], n: usize)
+fn write<W: Write>(to: &mut W, out: &[u8], n: usize) -> io::Result<()>
     requires { n ≤ length out.now }
 {
-    io::write_all(to, &out[..n]);
+    to.write_all(&out[..n])?;
+    to.flush()
 }
 
 // The line of fault n alone.
-fn refuse(n: u32, out: &mut [u8], to: i32) {
+fn refuse<W: Write>(n: u32, out: &mut [u8], to: &mut W) -> io::Result<()> {
     let k = listing::put_refused_line(out, 0, n);
-    write(to, out, k);
+    write(to, out, k)
 }
 
 // The chunks of a project.
-fn write_chunks(p: Project, out: &mut [u8; 65536], to: i32) {
+fn write_chunks<W: Write>(p: Project, out: &mut [u8; 65536], to: &mut W) -> io::Result<()> {
     let mut instant = 0;
     let mut count = 0;
     let mut over = false;
     while !over {
         let c = timetable_chunk::advance(p, instant, count, out);
-        write(to, out, c.written);
+        write(to, out, c.written)?;
         instant = c.instant;
         count = c.count;
         over = c.over;
     }
+    Ok(())
 }
 
 // Reads an image and writes its timetable, or the number of its fault.
-pub fn tabulate(bytes: &mut [u8; 65536], table: &mut [u32], from: i32, to: i32) {
-    let n = replay_input::read_image(from, bytes, table);
+pub fn tabulate<R: Read, W: Write>(
+    bytes: &mut [u8; 65536],
+    table: &mut [u32],
+    from: &mut R,
+    to: &mut W,
+) -> io::Result<()> {
+    let n = replay_input::read_image(from, bytes, table)?;
     let read = image::decode(&table[..n]);
     let fault = read.fault;
     let project = read.project;
     if fault == 0 {
-        write_chunks(project, bytes, to);
-        return;
+        return write_chunks(project, bytes, to);
     }
-    refuse(fault, bytes, to);
+    refuse(fault, bytes, to)
 }

@@ -28,5 +28,5 @@ returns c =
     let w = c.words_of in
     whole c.if-bytes-eq0.false c.if-bytes-size.false _ c.take_words-fault.result c.taken_bytes.result
     (judged_as
-    (lent_words _ a.bytes.now _ _ _ c.if-bytes-size.false (search rules) w.ensures.0 w.ensures.1) c.take_words-fault.ensures)
+    (lent_words _ a.bytes.now _ _ _ c.if-bytes-size.false (search rules) w.ensures.value w.ensures.words_after) c.take_words-fault.ensures)
     c.taken_bytes.ensures

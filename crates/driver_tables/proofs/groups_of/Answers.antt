@@ -6,4 +6,4 @@ pub returns : goal.returns
 returns c =
     let a = c.args in
     let l = c.lay_groups.ensures in
-    grouped a.table a.count a.nodes.now a.n c.no_places-begins.ensures c.no_middles-middles.ensures c.no_entries-links.ensures l.0 l.1.0 l.1.1
+    grouped a.table a.count a.nodes.now a.n c.no_places-begins.ensures c.no_middles-middles.ensures c.no_entries-links.ensures l.begins_after l.middles_after l.links_after

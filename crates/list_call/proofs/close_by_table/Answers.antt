@@ -21,4 +21,4 @@ pub returns : goal.returns
 returns c =
     let a = c.args in
     let l = c.lay_out_tank_links.ensures in
-    made a.p a.s c.no_places-begins.ensures c.no_middles-middles.ensures c.no_entries-links.ensures l.1.0 l.1.1.0 l.1.1.1 c.update_tank_links_by.ensures
+    made a.p a.s c.no_places-begins.ensures c.no_middles-middles.ensures c.no_entries-links.ensures l.begins_after l.middles_after l.links_after c.update_tank_links_by.ensures

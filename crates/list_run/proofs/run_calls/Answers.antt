@@ -21,13 +21,13 @@ counted-r-requires c =
       ); asked_bound =  }
 
 pub overflow_add-at : goal.overflow_add-at
-overflow_add-at c = omega (arith, c.Call-length.ensures, next_within c.loop-at.invariant c.loop-at-test.true)
+overflow_add-at c = omega (arith, c.call_length.ensures, next_within c.loop-at.invariant c.loop-at-test.true)
 
 pub loop-at-smaller : goal.loop-at-smaller
-loop-at-smaller c = omega (arith, c.Call-length.ensures, length_some (rest c.args.words.now c.loop-at.at), next_within c.loop-at.invariant c.loop-at-test.true)
+loop-at-smaller c = omega (arith, c.call_length.ensures, length_some (rest c.args.words.now c.loop-at.at), next_within c.loop-at.invariant c.loop-at-test.true)
 
 pub loop-at-preserved : goal.loop-at-preserved
-loop-at-preserved c = rw c.Call-length.ensures (ran_more c.loop-at.invariant c.loop-at-test.true (omega (arith, length_some (rest c.args.words.now c.loop-at.at))) c.counted-r.ensures)
+loop-at-preserved c = rw c.call_length.ensures (ran_more c.loop-at.invariant c.loop-at-test.true (omega (arith, length_some (rest c.args.words.now c.loop-at.at))) c.counted-r.ensures)
 
 pub returns : goal.returns
 returns c = ran_all c.loop-at.invariant c.loop-at-test.false ∙ ap (counted_all c.args.p (calls_of 0 c.args.words.now)) c.none_run-r.ensures

@@ -13,4 +13,4 @@ returns-then-code-gt9 c = rw (← c.word-code.ensures, le-leb _ _ c.if-code-lt1.
 
 pub returns : goal.returns
 unfolding call_ok
-returns c = rw (← c.word-code.ensures, le-leb _ _ c.if-code-lt1.false, le-leb _ _ c.if-code-gt9.false, c.Call-length.ensures)
+returns c = rw (← c.word-code.ensures, le-leb _ _ c.if-code-lt1.false, le-leb _ _ c.if-code-gt9.false, c.call_length.ensures)

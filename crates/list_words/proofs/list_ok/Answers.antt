@@ -14,13 +14,13 @@ pub returns-then-not-call_ok : goal.returns-then-not-call_ok
 returns-then-not-call_ok c = sym (checked_bad c.loop-at.invariant c.loop-at-test.true (sym c.call_ok.ensures ∙ c.if-not-call_ok.true))
 
 pub overflow_add-at : goal.overflow_add-at
-overflow_add-at c = omega (arith, c.Call-length.ensures, fits_here c.args.words.now c.loop-at.at c.loop-at-test.true (sym c.call_ok.ensures ∙ c.if-not-call_ok.false))
+overflow_add-at c = omega (arith, c.call_length-at.ensures, fits_here c.args.words.now c.loop-at.at c.loop-at-test.true (sym c.call_ok.ensures ∙ c.if-not-call_ok.false))
 
 pub loop-at-smaller : goal.loop-at-smaller
-loop-at-smaller c = omega (arith, c.Call-length.ensures, length_some (rest c.args.words.now c.loop-at.at), fits_here c.args.words.now c.loop-at.at c.loop-at-test.true (sym c.call_ok.ensures ∙ c.if-not-call_ok.false))
+loop-at-smaller c = omega (arith, c.call_length-at.ensures, length_some (rest c.args.words.now c.loop-at.at), fits_here c.args.words.now c.loop-at.at c.loop-at-test.true (sym c.call_ok.ensures ∙ c.if-not-call_ok.false))
 
 pub loop-at-preserved : goal.loop-at-preserved
-loop-at-preserved c = rw c.Call-length.ensures (checked_more c.loop-at.invariant c.loop-at-test.true (sym c.call_ok.ensures ∙ c.if-not-call_ok.false))
+loop-at-preserved c = rw c.call_length-at.ensures (checked_more c.loop-at.invariant c.loop-at-test.true (sym c.call_ok.ensures ∙ c.if-not-call_ok.false))
 
 pub returns : goal.returns
 returns c = sym (checked_all c.loop-at.invariant c.loop-at-test.false)

@@ -24,6 +24,6 @@ take_by-requires c = record { junctions_inside = junctions_inside c.requires c.j
 
 pub returns : goal.returns
 returns c =
-    let long : length c.args.s.nodes ≡ 256 = mapped _ c.args.s.nodes 256 c.well_formed.1.0.1.1.0.1.0.1 in
+    let long : length c.args.s.nodes ≡ 256 = c.well_formed.1.0.1.1.0.1.0.1 in
     let a = c in
     loaded_by_is a.requires c.junction_nodes-j.ensures c.link_ends-e.ensures c.tank_table-t.ensures c.tank_marks-tanks.ensures a.args.words.now a.args.s (long) c.take_by.result c.take_by.ensures

@@ -9,11 +9,11 @@ put_answer-requires c =
     let a = c.args in
     let s = c.next_stops-answer.ensures in
     let space = c.chunk_space-instants in record { within = ((
-      rw (s.0, s.1.1) (answered_within a.p a.instant space.result),
-      (rw s.1.1 (omega (arith, space.ensures, written_same a.p a.instant space.result)), omega arith),
+      rw (s.value, s.out_after) (answered_within a.p a.instant space.result),
+      (rw s.out_after (omega (arith, space.ensures, written_same a.p a.instant space.result)), omega arith),
     )).0; instants_in_bounds = ((
-      rw (s.0, s.1.1) (answered_within a.p a.instant space.result),
-      (rw s.1.1 (omega (arith, space.ensures, written_same a.p a.instant space.result)), omega arith),
+      rw (s.value, s.out_after) (answered_within a.p a.instant space.result),
+      (rw s.out_after (omega (arith, space.ensures, written_same a.p a.instant space.result)), omega arith),
     )).1 }
 
 pub returns : goal.returns
@@ -22,9 +22,9 @@ returns c =
     let s = c.next_stops-answer.ensures in
     let space = c.chunk_space-instants in
     let r = c.put_answer.ensures in record { value = ((
-      r.0 ∙ rw (s.0, s.1.1) (answered_chunk a.p a.instant space.result a.count (sym space.ensures)),
-      r.1 ∙ rw (s.0, s.1.1, answered_text a.p a.instant space.result a.count (sym space.ensures)),
+      r.value ∙ rw (s.value, s.out_after) (answered_chunk a.p a.instant space.result a.count (sym space.ensures)),
+      r.out_after ∙ rw (s.value, s.out_after, answered_text a.p a.instant space.result a.count (sym space.ensures)),
     )).0; out_after = ((
-      r.0 ∙ rw (s.0, s.1.1) (answered_chunk a.p a.instant space.result a.count (sym space.ensures)),
-      r.1 ∙ rw (s.0, s.1.1, answered_text a.p a.instant space.result a.count (sym space.ensures)),
+      r.value ∙ rw (s.value, s.out_after) (answered_chunk a.p a.instant space.result a.count (sym space.ensures)),
+      r.out_after ∙ rw (s.value, s.out_after, answered_text a.p a.instant space.result a.count (sym space.ensures)),
     )).1 }

@@ -33,7 +33,7 @@ pub returns-in-Unforeseen : goal.returns-in-Unforeseen
 returns-in-Unforeseen c =
     let t = c in
     let s = c.put_text-k.ensures in
-    let p = line_put none_line t.args.out.now (omega arith) t.requires.instants_in_bounds.1 s.0 s.1 in
+    let p = line_put none_line t.args.out.now (omega arith) t.requires.instants_in_bounds.1 s.value s.buf_after in
     rw c.in-Unforeseen.is (record { value = c.last.ensures ∙ rw p.0; out_after = p.1 })
 
 pub returns-in-Refused : goal.returns-in-Refused
@@ -41,5 +41,5 @@ returns-in-Refused c =
     let t = c in
     let s = c.put_refused_line-k.ensures in
     let n = c.in-Refused.number in
-    let p = line_put (refused_line n) t.args.out.now (line_short (Line.refused n)) t.requires.instants_in_bounds.1 s.0 s.1 in
+    let p = line_put (refused_line n) t.args.out.now (line_short (Line.refused n)) t.requires.instants_in_bounds.1 s.value s.buf_after in
     rw c.in-Refused.is (record { value = c.last-in-Refused.ensures ∙ rw p.0; out_after = p.1 })

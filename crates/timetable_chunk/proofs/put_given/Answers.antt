@@ -8,11 +8,11 @@ pub returns-then-n-eq0 : goal.returns-then-n-eq0
 returns-then-n-eq0 c =
     let a = c.args in
     let s = c.put_steps_line-k.ensures in
-    let p = line_put (steps_line a.count) a.out.now (line_short (Line.finished a.count)) c.requires.1 s.0 s.1 in
+    let p = line_put (steps_line a.count) a.out.now (line_short (Line.finished a.count)) c.requires.1 s.value s.buf_after in
     record { value = (none_given a.instants.now a.instant a.count a.out.now c.if-n-eq0.true c.last.ensures p.0 p.1).0; out_after = (none_given a.instants.now a.instant a.count a.out.now c.if-n-eq0.true c.last.ensures p.0 p.1).1 }
 
 pub returns : goal.returns
 returns c =
     let a = c.args in
     let s = c.put_instants-k.ensures in
-    record { value = (some_given a.instants.now a.instant a.count a.out.now c.if-n-eq0.false c.counted.ensures s.0 s.1).0; out_after = (some_given a.instants.now a.instant a.count a.out.now c.if-n-eq0.false c.counted.ensures s.0 s.1).1 }
+    record { value = (some_given a.instants.now a.instant a.count a.out.now c.if-n-eq0.false c.counted.ensures s.value s.out_after).0; out_after = (some_given a.instants.now a.instant a.count a.out.now c.if-n-eq0.false c.counted.ensures s.value s.out_after).1 }

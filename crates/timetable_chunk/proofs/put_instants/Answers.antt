@@ -10,7 +10,7 @@ loop-i-init c = lines_begun
 pub loop-i-preserved : goal.loop-i-preserved
 loop-i-preserved c =
     let p = c.put_number_line-at.ensures in
-    lines_turned c.loop-i.invariant c.requires (search rules) p.0 p.1
+    lines_turned c.loop-i.invariant c.requires (search rules) p.value p.buf_after
 
 pub shape_of-out : goal.shape_of-out
 shape_of-out c = lines_same c.loop-i.invariant

@@ -11,52 +11,42 @@ use Rattle.image.proofs.Answers.{says_refused, walk_begun, walk_default, walk_ac
 use Rattle.image.proofs.Turns.{Turn, turn_some, turn_fits, turn_room, turn_left, turn_few, turn_size, turn_refused, turn_taken}
 use Rattle.image.proofs.walk.walked.Goals as goal
 
--- a turn, once its record is read
-turn :
-    (c : goal.After-record-e) →
-    let l = c in
-    let start = l in
-    Turn start.args.words.now l.loop-at.at l.loop-at.stage (with_patterns l.loop-at.t l.loop-at.lengths l.loop-at.multipliers) c.«record».result
-turn c =
-    let d = c in
-    record { reached = d.loop-at.invariant.reached; here = d.loop-at-test.true; says = c.«record».ensures }
-
--- the reading of the record, from the end of a turn
-abbrev read : goal.After-stage-of-UNKNOWN → goal.After-record-e
-read c =
-    let d = c in
-    d
-
--- a record that is stored has no fault
-faultless : (c : goal.After-stage-of-UNKNOWN) → fault_of (read c).«record».result ≡ 0
-faultless c =
-    let d = c in
-    let e = d in
-    sym e.fault_of-fault.ensures ∙ e.if-fault-ne0.false
-
 pub loop-at-init : goal.loop-at-init
 loop-at-init c =
     let start = c in
-    walk_begun start.requires.in_bounds start.requires.words_len_bound c.emptied-t.ensures
+    walk_begun start.requires.in_bounds start.requires.words_len_bound (c.emptied-t.ensures.value, (c.emptied-t.ensures.lengths_after, c.emptied-t.ensures.multipliers_after))
 
 pub returns-then-fault-ne0 : goal.returns-then-fault-ne0
 returns-then-fault-ne0 c =
+    -- the turn, once its record is read
+    let u : Turn c.args.words.now c.loop-at.at c.loop-at.stage (with_patterns c.loop-at.t c.loop-at.lengths c.loop-at.multipliers) c.record-e.result =
+        record { reached = c.loop-at.invariant.reached; here = c.loop-at-test.true; says = c.record-e.ensures } in
     let d = c in
     let q = d.fault_of-fault.ensures in
-    record { value = (says_refused _ (turn_refused (turn d) (λ z. d.if-fault-ne0.true (q ∙ z)) ∙ ap refused (sym q)) c.emptied.ensures).0; lengths_after = (says_refused _ (turn_refused (turn d) (λ z. d.if-fault-ne0.true (q ∙ z)) ∙ ap refused (sym q)) c.emptied.ensures).1.0; multipliers_after = (says_refused _ (turn_refused (turn d) (λ z. d.if-fault-ne0.true (q ∙ z)) ∙ ap refused (sym q)) c.emptied.ensures).1.1 }
+    record { value = (says_refused _ (turn_refused u (λ z. d.if-fault-ne0.true (q ∙ z)) ∙ ap refused (sym q)) (c.emptied.ensures.value, (c.emptied.ensures.lengths_after, c.emptied.ensures.multipliers_after))).0; lengths_after = (says_refused _ (turn_refused u (λ z. d.if-fault-ne0.true (q ∙ z)) ∙ ap refused (sym q)) (c.emptied.ensures.value, (c.emptied.ensures.lengths_after, c.emptied.ensures.multipliers_after))).1.0; multipliers_after = (says_refused _ (turn_refused u (λ z. d.if-fault-ne0.true (q ∙ z)) ∙ ap refused (sym q)) (c.emptied.ensures.value, (c.emptied.ensures.lengths_after, c.emptied.ensures.multipliers_after))).1.1 }
 
 pub bounds-ws-0 : goal.bounds-ws-0
-bounds-ws-0 c = turn_some (turn c)
+bounds-ws-0 c =
+    -- the turn, once its record is read
+    let u : Turn c.args.words.now c.loop-at.at c.loop-at.stage (with_patterns c.loop-at.t c.loop-at.lengths c.loop-at.multipliers) c.record-e.result =
+        record { reached = c.loop-at.invariant.reached; here = c.loop-at-test.true; says = c.record-e.ensures } in
+    turn_some u
 
 pub slice_bounds-place_multipliers-end : goal.slice_bounds-place_multipliers-end
 slice_bounds-place_multipliers-end c =
+    -- the turn, once its record is read
+    let u : Turn c.args.words.now c.loop-at.at c.loop-at.stage (with_patterns c.loop-at.t c.loop-at.lengths c.loop-at.multipliers) c.record-e.result =
+        record { reached = c.loop-at.invariant.reached; here = c.loop-at-test.true; says = c.record-e.ensures } in
     let d = c in
-    omega (arith, turn_fits (turn d) (sym d.fault_of-fault.ensures ∙ d.if-fault-ne0.false))
+    omega (arith, turn_fits u (sym d.fault_of-fault.ensures ∙ d.if-fault-ne0.false))
 
 pub place_multipliers-requires : goal.place_multipliers-requires
 place_multipliers-requires c =
+    -- the turn, once its record is read
+    let u : Turn c.args.words.now c.loop-at.at c.loop-at.stage (with_patterns c.loop-at.t c.loop-at.lengths c.loop-at.multipliers) c.record-e.result =
+        record { reached = c.loop-at.invariant.reached; here = c.loop-at-test.true; says = c.record-e.ensures } in
     let d = c in
-    record { k_bound = omega (arith, d.least-k.ensures); p_bound = turn_few (turn d) }
+    record { k_bound = omega (arith, d.least-k.ensures); p_bound = turn_few u }
 
 pub offset_bounds-lengths-k : goal.offset_bounds-lengths-k
 offset_bounds-lengths-k c = omega (arith, c.least-k.ensures)
@@ -120,38 +110,45 @@ bounds-t-q-in-loop-at c = omega (arith, c.least-q.ensures)
 
 pub place_count-t-requires : goal.place_count-t-requires
 place_count-t-requires c =
+    -- the turn, once its record is read
+    let u : Turn c.args.words.now c.loop-at.at c.loop-at.stage (with_patterns c.loop-at.t c.loop-at.lengths c.loop-at.multipliers) c.record-e.result =
+        record { reached = c.loop-at.invariant.reached; here = c.loop-at-test.true; says = c.record-e.ensures } in
     let d = c in
-    turn_left (turn d)
+    turn_left u
 
 pub overflow_add-at : goal.overflow_add-at
-overflow_add-at c = omega (arith, turn_fits (turn (read c)) (faultless c))
+overflow_add-at c =
+    -- the turn, once its record is read
+    let u : Turn c.args.words.now c.loop-at.at c.loop-at.stage (with_patterns c.loop-at.t c.loop-at.lengths c.loop-at.multipliers) c.record-e.result =
+        record { reached = c.loop-at.invariant.reached; here = c.loop-at-test.true; says = c.record-e.ensures } in
+    omega (arith, turn_fits u (sym c.fault_of-fault.ensures ∙ c.if-fault-ne0.false))
 
 pub overflow_add-at-in-loop-at : goal.overflow_add-at-in-loop-at
 overflow_add-at-in-loop-at c =
-    let start = (read c) in
-    omega (arith, start.pre.1, turn_fits (turn (read c)) (faultless c))
+    -- the turn, once its record is read
+    let u : Turn c.args.words.now c.loop-at.at c.loop-at.stage (with_patterns c.loop-at.t c.loop-at.lengths c.loop-at.multipliers) c.record-e.result =
+        record { reached = c.loop-at.invariant.reached; here = c.loop-at-test.true; says = c.record-e.ensures } in
+    omega (arith, c.requires.words_len_bound, turn_fits u (sym c.fault_of-fault.ensures ∙ c.if-fault-ne0.false))
 
 pub loop-at-smaller : goal.loop-at-smaller
-loop-at-smaller c = omega (arith, turn_fits (turn (read c)) (faultless c))
+loop-at-smaller c =
+    -- the turn, once its record is read
+    let u : Turn c.args.words.now c.loop-at.at c.loop-at.stage (with_patterns c.loop-at.t c.loop-at.lengths c.loop-at.multipliers) c.record-e.result =
+        record { reached = c.loop-at.invariant.reached; here = c.loop-at-test.true; says = c.record-e.ensures } in
+    omega (arith, turn_fits u (sym c.fault_of-fault.ensures ∙ c.if-fault-ne0.false))
 
 pub loop-at-preserved : goal.loop-at-preserved
 loop-at-preserved c =
-    let counts = c in
-    let options = counts in
-    let premise = options in
-    let control = premise in
-    let link = control in
-    let node = link in
-    let pattern = node in
-    let multipliers = pattern in
-    let u = turn (read c) in
-    let reached = turn_taken u (faultless c) c.stage_of-stage.ensures
-    (stored_by _ _ _ (turn_room u) (turn_size u (faultless c)) multipliers.least-k.ensures
-    node.least-i.ensures link.least-l.ensures control.least-c.ensures
-    premise.least-q.ensures options.place_options-t.ensures counts.place_count-t.ensures pattern.place_length.ensures
-    multipliers.place_multipliers.ensures node.place_node.ensures link.place_link.ensures control.place_control.ensures
-    premise.place_premise.ensures) in
-    record { reached = reached; faultless = (read c).loop.invariant.faultless }
+    -- the turn, once its record is read
+    let u : Turn c.args.words.now c.loop-at.at c.loop-at.stage (with_patterns c.loop-at.t c.loop-at.lengths c.loop-at.multipliers) c.record-e.result =
+        record { reached = c.loop-at.invariant.reached; here = c.loop-at-test.true; says = c.record-e.ensures } in
+    let reached = turn_taken u (sym c.fault_of-fault.ensures ∙ c.if-fault-ne0.false) c.stage_of-stage.ensures
+    (stored_by _ _ _ (turn_room u) (turn_size u (sym c.fault_of-fault.ensures ∙ c.if-fault-ne0.false)) c.least-k.ensures
+    c.least-i.ensures c.least-l.ensures c.least-c.ensures
+    c.least-q.ensures c.place_options-t.ensures c.place_count-t.ensures c.place_length.ensures
+    c.place_multipliers.ensures c.place_node.ensures c.place_link.ensures c.place_control.ensures
+    c.place_premise.ensures) in
+    record { reached = reached; faultless = c.loop-at.invariant.faultless }
 
 pub returns-then-not-pattern_index_ok : goal.returns-then-not-pattern_index_ok
 returns-then-not-pattern_index_ok c =
@@ -159,9 +156,9 @@ returns-then-not-pattern_index_ok c =
     let ok = d.pattern_index_ok in
     let over = d in
     record { value = (says_refused 6 (walk_default over.loop-at.invariant over.loop-at-test.false (sym ok.ensures ∙ d.if-not-pattern_index_ok.true))
-    c.emptied-then-not-pattern_index_ok.ensures).0; lengths_after = (says_refused 6 (walk_default over.loop-at.invariant over.loop-at-test.false (sym ok.ensures ∙ d.if-not-pattern_index_ok.true))
-    c.emptied-then-not-pattern_index_ok.ensures).1.0; multipliers_after = (says_refused 6 (walk_default over.loop-at.invariant over.loop-at-test.false (sym ok.ensures ∙ d.if-not-pattern_index_ok.true))
-    c.emptied-then-not-pattern_index_ok.ensures).1.1 }
+    (c.emptied-then-not-pattern_index_ok.ensures.value, (c.emptied-then-not-pattern_index_ok.ensures.lengths_after, c.emptied-then-not-pattern_index_ok.ensures.multipliers_after))).0; lengths_after = (says_refused 6 (walk_default over.loop-at.invariant over.loop-at-test.false (sym ok.ensures ∙ d.if-not-pattern_index_ok.true))
+    (c.emptied-then-not-pattern_index_ok.ensures.value, (c.emptied-then-not-pattern_index_ok.ensures.lengths_after, c.emptied-then-not-pattern_index_ok.ensures.multipliers_after))).1.0; multipliers_after = (says_refused 6 (walk_default over.loop-at.invariant over.loop-at-test.false (sym ok.ensures ∙ d.if-not-pattern_index_ok.true))
+    (c.emptied-then-not-pattern_index_ok.ensures.value, (c.emptied-then-not-pattern_index_ok.ensures.lengths_after, c.emptied-then-not-pattern_index_ok.ensures.multipliers_after))).1.1 }
 
 pub returns : goal.returns
 returns c =

@@ -21,4 +21,4 @@ pub returns : goal.returns
 unfolding answer_text
 returns c =
     let a = c.args in
-    record { value = rw (ne_eqb a.number 0 c.if-number-eq0.false) (both a.out.now a.at (name_text a.code) (refused_text a.number) (omega (arith, c.requires, name_short a.code, refused_short a.number)) c.put_name-i.ensures c.Put-refused.ensures); out_after = rw (ne_eqb a.number 0 c.if-number-eq0.false) (both a.out.now a.at (name_text a.code) (refused_text a.number) (omega (arith, c.requires, name_short a.code, refused_short a.number)) c.put_name-i.ensures c.Put-refused.ensures) }
+    record { value = rw (ne_eqb a.number 0 c.if-number-eq0.false) (both a.out.now a.at (name_text a.code) (refused_text a.number) (omega (arith, c.requires, name_short a.code, refused_short a.number)) c.put_name-i.ensures c.put_refused.ensures); out_after = rw (ne_eqb a.number 0 c.if-number-eq0.false) (both a.out.now a.at (name_text a.code) (refused_text a.number) (omega (arith, c.requires, name_short a.code, refused_short a.number)) c.put_name-i.ensures c.put_refused.ensures) }

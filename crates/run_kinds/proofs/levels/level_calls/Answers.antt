@@ -39,7 +39,7 @@ bounds-targets-count c = omega (arith, c.requires.n_bound, c.loop-i.invariant.fe
 pub overflow_add-count : goal.overflow_add-count
 overflow_add-count c =
     let few : c.level_count-count.result ≤ 1 = let a = c.args in
-    rw c.level_count-count.ensures (levels_few (ltb c.tank_number-k.result a.tank_count) (get_or a.t1 c.loop-i.i blank_control).condition) in
+    rw c.level_count-count.ensures (levels_few (ltb c.tank_number-k.result a.tank_count) (get_or a.controls c.loop-i.i blank_control).condition) in
     omega (arith, c.requires.n_bound, c.loop-i.invariant.few, few)
 
 pub loop-i-preserved : goal.loop-i-preserved

@@ -11,7 +11,7 @@ returns-then-current-in_force c =
           (record { lengths = a.lengths.now; multipliers = a.multipliers.now; start = a.start; timestep = a.timestep; counts = a.counts.now; bases = a.bases.now; places = a.places.now; scale = a.scale; pda = a.pda; n = a.n; reservoirs = a.reservoirs.now; elevations = a.elevations.now; patterns = a.patterns.now; patterned = a.patterned })
           a.time
           (record { table = a.table.now; heads = a.heads.now; demands = a.demands.now; flows = a.demand_flows.now })
-          a.tanks.now a.tank-count a.in-force c.period-current.ensures c.if-current-in_force.true c.empty_tanks.ensures }
+          a.tanks.now a.tank_count a.in_force c.period-current.ensures c.if-current-in_force.true c.empty_tanks.ensures }
 
 pub fill_patterns-requires : goal.fill_patterns-requires
 fill_patterns-requires c = record { demands_inside = c.requires.demands_inside; heads_inside = c.requires.heads_inside }
@@ -22,4 +22,4 @@ returns c =
           (record { lengths = a.lengths.now; multipliers = a.multipliers.now; start = a.start; timestep = a.timestep; counts = a.counts.now; bases = a.bases.now; places = a.places.now; scale = a.scale; pda = a.pda; n = a.n; reservoirs = a.reservoirs.now; elevations = a.elevations.now; patterns = a.patterns.now; patterned = a.patterned })
           a.time
           (record { table = a.table.now; heads = a.heads.now; demands = a.demands.now; flows = a.demand_flows.now })
-          a.tanks.now a.tank-count a.in-force c.period-current.ensures c.if-current-in_force.false c.fill_patterns.ensures }
+          a.tanks.now a.tank_count a.in_force c.period-current.ensures c.if-current-in_force.false c.fill_patterns.ensures }

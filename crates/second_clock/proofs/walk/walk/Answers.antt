@@ -31,7 +31,7 @@ returns-then-stops_then c =
     let a = c.args in
     let w = c.awaited_by-awaited.result in
     let l = c.loop-instant in
-    let told = stop_told a.o w.times-1 w.clocks-1 a.count a.from l.instant l.seconds l.invariant.at c.any_calls-called.ensures c.Stops-then.ensures in
+    let told = stop_told a.o w.times w.clocks a.count a.from l.instant l.seconds l.invariant.at c.any_calls-called.ensures c.stops_then.ensures in
     going_stops l.invariant c.loop-instant-test.true told c.if-stops_then.true
     ∙ walk_by_is a.o a.controls a.count a.from w c.requires.times_fit c.requires.count_bound c.awaited_by-awaited.ensures
 
@@ -40,7 +40,7 @@ loop-instant-preserved c =
     let a = c.args in
     let w = c.awaited_by-awaited.result in
     let l = c.loop-instant in
-    let told = stop_told a.o w.times-1 w.clocks-1 a.count a.from l.instant l.seconds l.invariant.at c.any_calls-called.ensures c.Stops-then.ensures in
+    let told = stop_told a.o w.times w.clocks a.count a.from l.instant l.seconds l.invariant.at c.any_calls-called.ensures c.stops_then.ensures in
     going_turned l.invariant c.loop-instant-test.true told c.if-stops_then.false
 
 pub returns : goal.returns

@@ -16,7 +16,7 @@ close_by-requires c =
 
 pub returns : goal.returns
 returns c =
-    let long : length c.args.s.links ≡ 384 = mapped _ c.args.s.links 384 c.well_formed.1.0.1.1.1.0.1.0.1 in
+    let long : length c.args.s.links ≡ 384 = c.well_formed.1.0.1.1.1.0.1.0.1 in
     let there : Stands c.args.p c.args.begins.now c.args.middles.now c.args.links.now = stands c.args.p c.args.begins.now c.args.middles.now c.args.links.now c.requires.links_value in
     let a = c in
     closed_by_is a.requires.tables_fit c.tank_table-t.ensures (there) a.args.s (long) c.close_by.result c.close_by.ensures

@@ -8,10 +8,6 @@ use Rattle.solver.specs.Pressure.{apply_pressure_controls}
 use borrow.Author.Rules.{rules}
 use Rattle.solver.proofs.pressure.apply_pressure_controls.Goals as goal
 
--- the watched node is in the tables
-watched_in : (c : goal.After-watched-w) → c.watched-w.result < 256
-watched_in c = rw c.watched-w.ensures (watched_inside c.requires c.loop-i.i (search rules))
-
 pub loop-i-init : goal.loop-i-init
 loop-i-init c = begun
 
@@ -22,16 +18,24 @@ pub bounds-p-i : goal.bounds-p-i
 bounds-p-i c = omega (arith, c.requires.few.controls)
 
 pub offset_bounds-p-w : goal.offset_bounds-p-w
-offset_bounds-p-w c = omega (arith, watched_in (c))
+offset_bounds-p-w c =
+    let watched_in : c.watched-w.result < 256 = rw c.watched-w.ensures (watched_inside c.requires c.loop-i.i (search rules)) in
+    omega (arith, watched_in)
 
 pub bounds-p-w : goal.bounds-p-w
-bounds-p-w c = omega (arith, watched_in (c))
+bounds-p-w c =
+    let watched_in : c.watched-w.result < 256 = rw c.watched-w.ensures (watched_inside c.requires c.loop-i.i (search rules)) in
+    omega (arith, watched_in)
 
 pub offset_bounds-st-w : goal.offset_bounds-st-w
-offset_bounds-st-w c = omega (arith, watched_in c)
+offset_bounds-st-w c =
+    let watched_in : c.watched-w.result < 256 = rw c.watched-w.ensures (watched_inside c.requires c.loop-i.i (search rules)) in
+    omega (arith, watched_in)
 
 pub bounds-st-w : goal.bounds-st-w
-bounds-st-w c = omega (arith, watched_in c)
+bounds-st-w c =
+    let watched_in : c.watched-w.result < 256 = rw c.watched-w.ensures (watched_inside c.requires c.loop-i.i (search rules)) in
+    omega (arith, watched_in)
 
 pub offset_bounds-p-l : goal.offset_bounds-p-l
 offset_bounds-p-l c = omega (arith, controlled_inside c.requires c.loop-i.i (search rules))

@@ -21,7 +21,7 @@ fill_patterns-requires c =
 
 pub returns : goal.returns
 returns c =
-    let room : c.args.p.counts.nodes ≤ length c.args.s.nodes = omega (arith, c.requires.few.nodes, mapped _ c.args.s.nodes 256 c.well_formed.1.0.1.1.0.1.0.1) in
+    let room : c.args.p.counts.nodes ≤ length c.args.s.nodes = omega (arith, c.requires.few.nodes, c.well_formed.1.0.1.1.0.1.0.1) in
     let long : length c.args.p.multipliers ≡ 5376 = search rules in
     let a = c in
     patterns_packed a.args.p _ a.args.s _

@@ -14,30 +14,36 @@ awaited_by-awaited-requires c = c.requires.few
 pub loop-time-init : goal.loop-time-init
 loop-time-init c = stops_begun
 
--- where the loop goes on: before the duration, and with room
-inside : (c : goal.In-loop-time) → (c.loop-time.time < c.args.o.duration) × (c.loop-time.n < length c.loop-time.out)
-inside c = goes_on _ _ _ _ c.loop-time-test.true
-
 pub next_after-time-requires : goal.next_after-time-requires
 next_after-time-requires c =
+    let inside : (c.loop-time.time < c.args.o.duration) × (c.loop-time.n < length c.loop-time.out) = goes_on _ _ _ _ c.loop-time-test.true in
     let t = c in
-    record { duration_bound = (t.requires.duration, (inside c).0); count_bound = t.requires.few }
+    record { duration_bound = (t.requires.duration, (inside).0); count_bound = t.requires.few }
 
 pub offset_bounds-out-n : goal.offset_bounds-out-n
-offset_bounds-out-n c = search (rules, (inside c).1)
+offset_bounds-out-n c =
+    let inside : (c.loop-time.time < c.args.o.duration) × (c.loop-time.n < length c.loop-time.out) = goes_on _ _ _ _ c.loop-time-test.true in
+    search (rules, (inside).1)
 
 pub bounds-out-n : goal.bounds-out-n
-bounds-out-n c = (inside c).1
+bounds-out-n c =
+    let inside : (c.loop-time.time < c.args.o.duration) × (c.loop-time.n < length c.loop-time.out) = goes_on _ _ _ _ c.loop-time-test.true in
+    (inside).1
 
 pub overflow_add-n : goal.overflow_add-n
-overflow_add-n c = search (rules, (inside c).1)
+overflow_add-n c =
+    let inside : (c.loop-time.time < c.args.o.duration) × (c.loop-time.n < length c.loop-time.out) = goes_on _ _ _ _ c.loop-time-test.true in
+    search (rules, (inside).1)
 
 pub loop-time-smaller : goal.loop-time-smaller
-loop-time-smaller c = simp length-set (omega (arith, (inside c).1))
+loop-time-smaller c =
+    let inside : (c.loop-time.time < c.args.o.duration) × (c.loop-time.n < length c.loop-time.out) = goes_on _ _ _ _ c.loop-time-test.true in
+    simp length-set (omega (arith, (inside).1))
 
 pub loop-time-preserved : goal.loop-time-preserved
 loop-time-preserved c =
-    let on = inside c in
+    let inside : (c.loop-time.time < c.args.o.duration) × (c.loop-time.n < length c.loop-time.out) = goes_on _ _ _ _ c.loop-time-test.true in
+    let on = inside in
     stops_turned c.loop-time.invariant c.next_after-time.result c.next_after-time.ensures on.0 on.1
 
 pub shape_of-out : goal.shape_of-out

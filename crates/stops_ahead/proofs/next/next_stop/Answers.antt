@@ -8,5 +8,5 @@ pub returns : goal.returns
 returns c =
     let a = c.args in
     let s = c.next_stops-answer.ensures in
-    let e : c.first_of.result ≡ next_stop a.p a.instant = c.first_of.ensures ∙ rw (s.0, s.1.1) (first_written a.p a.instant) in
+    let e : c.first_of.result ≡ next_stop a.p a.instant = c.first_of.ensures ∙ rw (s.value, s.out_after) (first_written a.p a.instant) in
     record { value = e; result_value = stop_answers a.p a.instant e }

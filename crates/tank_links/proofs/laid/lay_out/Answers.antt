@@ -16,4 +16,4 @@ returns c =
     let t = c.tank_nodes-t.ensures in
     let a = c.args in
     let e = c.lay_groups.ensures in
-    record { value = t.many; begins_after = e.0 ∙ ap (sets a.begins.now 0) (begins_are a.p t); middles_after = e.1.0 ∙ ap (sets a.middles.now 0) (middles_are a.p t); links_after = e.1.1 ∙ ap (sets a.links.now 0) (entries_are a.p t) }
+    record { value = t.many; begins_after = e.begins_after ∙ ap (sets a.begins.now 0) (begins_are a.p t); middles_after = e.middles_after ∙ ap (sets a.middles.now 0) (middles_are a.p t); links_after = e.links_after ∙ ap (sets a.links.now 0) (entries_are a.p t) }
