@@ -17,10 +17,10 @@ pub slice_bounds-words_of-end : goal.slice_bounds-words_of-end
 slice_bounds-words_of-end c = sym (length-take-le _ _ (search rules))
 
 pub slice_bounds-words-end-2 : goal.slice_bounds-words-end-2
-slice_bounds-words-end-2 c = lent_room _ c.space-words.result c.words_of.new.words (search rules) c.words_of.auto.1.0
+slice_bounds-words-end-2 c = lent_room _ c.space-words.result c.words_of.new.words (search rules) c.words_of.auto.words
 
 pub slice_bounds-take_words-end : goal.slice_bounds-take_words-end
-slice_bounds-take_words-end c = sym (length-take-le _ _ (lent_room _ c.space-words.result c.words_of.new.words (search rules) c.words_of.auto.1.0))
+slice_bounds-take_words-end c = sym (length-take-le _ _ (lent_room _ c.space-words.result c.words_of.new.words (search rules) c.words_of.auto.words))
 
 pub returns : goal.returns
 returns c =

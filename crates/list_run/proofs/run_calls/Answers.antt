@@ -15,19 +15,16 @@ loop-at-init c = running c.requires.s_value c.requires.words_value c.none_run-r.
 
 pub counted-r-requires : goal.counted-r-requires
 counted-r-requires c =
-    let g = c.loop-at.invariant in record { serves_value = c.requires.serves_value; state_value = (
-        g.fits.order,
-        (omega (arith, g.fits.asks, c.loop-at-test.true), g.fits.sum, g.fits.moving, call_whole g c.loop-at-test.true),
-      ); asked_bound =  }
+    let g = c.loop-at.invariant in record { serves_value = c.requires.serves_value; state_value = g.fits.order; asked_bound = (omega (arith, g.fits.asks, c.loop-at-test.true), g.fits.sum, g.fits.moving, call_whole g c.loop-at-test.true) }
 
 pub overflow_add-at : goal.overflow_add-at
-overflow_add-at c = omega (arith, c.call_length.ensures, next_within c.loop-at.invariant c.loop-at-test.true)
+overflow_add-at c = omega (arith, c.call_length-at.ensures, next_within c.loop-at.invariant c.loop-at-test.true)
 
 pub loop-at-smaller : goal.loop-at-smaller
-loop-at-smaller c = omega (arith, c.call_length.ensures, length_some (rest c.args.words.now c.loop-at.at), next_within c.loop-at.invariant c.loop-at-test.true)
+loop-at-smaller c = omega (arith, c.call_length-at.ensures, length_some (rest c.args.words.now c.loop-at.at), next_within c.loop-at.invariant c.loop-at-test.true)
 
 pub loop-at-preserved : goal.loop-at-preserved
-loop-at-preserved c = rw c.call_length.ensures (ran_more c.loop-at.invariant c.loop-at-test.true (omega (arith, length_some (rest c.args.words.now c.loop-at.at))) c.counted-r.ensures)
+loop-at-preserved c = rw c.call_length-at.ensures (ran_more c.loop-at.invariant c.loop-at-test.true (omega (arith, length_some (rest c.args.words.now c.loop-at.at))) c.counted-r.ensures)
 
 pub returns : goal.returns
 returns c = ran_all c.loop-at.invariant c.loop-at-test.false ∙ ap (counted_all c.args.p (calls_of 0 c.args.words.now)) c.none_run-r.ensures

@@ -62,10 +62,7 @@ second_applies-requires c = tables_fit c.args.p (start_tables c.args.p (sym (ap 
 
 pub run_calls-requires : goal.run_calls-requires
 run_calls-requires c =
-    let p = c.args.p in record { serves_value = c.second_applies.ensures; s_value = (
-        ap (λ (k : Called). in_order p k.state) c.new_with_initial_values-started.ensures ∙ start_in_order p (sym (ap (λ (k : Called). k.number) c.new_with_initial_values-started.ensures) ∙ c.if-number-ne0.false),
-        sym c.list_ok.ensures ∙ c.if-not-list_ok.false,
-      ); words_value =  }
+    let p = c.args.p in record { serves_value = c.second_applies.ensures; s_value = ap (λ (k : Called). in_order p k.state) c.new_with_initial_values-started.ensures ∙ start_in_order p (sym (ap (λ (k : Called). k.number) c.new_with_initial_values-started.ensures) ∙ c.if-number-ne0.false); words_value = sym c.list_ok.ensures ∙ c.if-not-list_ok.false }
 
 pub returns : goal.returns
 returns c =
