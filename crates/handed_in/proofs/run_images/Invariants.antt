@@ -4,7 +4,7 @@ use lib.ListN.{length}
 use Rattle.handed_in.proofs.run_images.Given as goal
 
 abbrev pub invariant-loop-i : goal.invariant-loop-i
-invariant-loop-i l = (length l.bytes ≡ length l.initial.bytes) × (length l.table ≡ length l.initial.table)
+invariant-loop-i g l = (length l.bytes ≡ length l.initial.bytes) × (length l.table ≡ length l.initial.table)
 
 abbrev pub decreases-loop-i : goal.decreases-loop-i
-decreases-loop-i l = 1000 - l.i
+decreases-loop-i g l = 1000 - l.i

@@ -4,4 +4,4 @@ use mathlib.Core.Path.{refl}
 use Rattle.stops_asked.proofs.ask_all.Goals as goal
 
 pub loop-i-init : goal.loop-i-init
-loop-i-init c = refl
+loop-i-init g c = refl

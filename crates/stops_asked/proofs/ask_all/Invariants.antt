@@ -4,7 +4,7 @@ use lib.ListN.{length}
 use Rattle.stops_asked.proofs.ask_all.Given as goal
 
 abbrev pub invariant-loop-i : goal.invariant-loop-i
-invariant-loop-i l = length l.bytes ≡ length l.initial.bytes
+invariant-loop-i g l = length l.bytes ≡ length l.initial.bytes
 
 abbrev pub decreases-loop-i : goal.decreases-loop-i
-decreases-loop-i l = l.n - l.i
+decreases-loop-i g l = l.n - l.i

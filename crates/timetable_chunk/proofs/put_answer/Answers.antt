@@ -12,14 +12,11 @@ use Rattle.timetable_chunk.specs.Timetable.{none_line}
 use Rattle.timetable_chunk.proofs.Given.{line_put}
 use Rattle.timetable_chunk.proofs.put_answer.Goals as goal
 
--- an answer has no more stops than the list
-inside : (c : goal.After-known-told-UNKNOWN) → c.in-Stops.n ≤ length c.args.instants.now
-inside c =
-    let t = c in
-    subst (λ (a : StopsAnswer). Within a t.args.instants.now) c.in-Stops.is t.requires.within
-
 pub slice_bounds-put_given-end : goal.slice_bounds-put_given-end
-slice_bounds-put_given-end c = sym (length-take-le c.in-Stops.n c.args.instants.now (inside c))
+slice_bounds-put_given-end c =
+    -- an answer has no more stops than the list
+    let inside : c.in-Stops.n ≤ length c.args.instants.now = subst (λ (a : StopsAnswer). Within a c.args.instants.now) c.in-Stops.is c.requires.within in
+    sym (length-take-le c.in-Stops.n c.args.instants.now inside)
 
 pub put_given-requires : goal.put_given-requires
 put_given-requires c =
@@ -27,7 +24,7 @@ put_given-requires c =
     (omega (arith, t.requires.instants_in_bounds.0, length-take c.in-Stops.n t.args.instants.now), t.requires.instants_in_bounds.1)
 
 pub returns-in-Stops : goal.returns-in-Stops
-returns-in-Stops c = record { value = rw c.in-Stops.is c.put_given.ensures; out_after = rw c.in-Stops.is c.put_given.ensures }
+returns-in-Stops c = record { value = rw c.in-Stops.is c.put_given.ensures.value; out_after = rw c.in-Stops.is c.put_given.ensures.out_after }
 
 pub returns-in-Unforeseen : goal.returns-in-Unforeseen
 returns-in-Unforeseen c =

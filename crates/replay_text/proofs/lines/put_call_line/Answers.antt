@@ -13,5 +13,5 @@ put_state-requires c = let a = c.args in omega (arith, c.if-out-lt-LONGEST_LINE.
 pub returns : goal.returns
 returns c =
     let a = c.args in
-    let pair = both a.out.now 0 (answer_text a.code a.number a.seconds a.truth) (state_text a.counts a.s) (omega (arith, c.if-out-lt-LONGEST_LINE.false, answer_short a.code a.number a.seconds a.truth, state_short a.counts a.s)) c.put_answer-at.ensures c.put_state.ensures in
+    let pair = both a.out.now 0 (answer_text a.code a.number a.seconds a.truth) (state_text a.counts a.s) (omega (arith, c.if-out-lt-LONGEST_LINE.false, answer_short a.code a.number a.seconds a.truth, state_short a.counts a.s)) (c.put_answer-at.ensures.value, c.put_answer-at.ensures.out_after) (c.put_state.ensures.value, c.put_state.ensures.out_after) in
     record { value = (line_put a.out.now (call_line a.code a.number a.seconds a.truth a.counts a.s) c.if-out-lt-LONGEST_LINE.false pair).0; out_after = (line_put a.out.now (call_line a.code a.number a.seconds a.truth a.counts a.s) c.if-out-lt-LONGEST_LINE.false pair).1 }

@@ -22,5 +22,5 @@ returns c =
     let a = c.args in
     let label : List ℕ = 115 ∷ 116 ∷ 97 ∷ 114 ∷ 116 ∷ 32 ∷ 111 ∷ 107 ∷ [] in
     let p = fits a.out.now 0 label refl (omega (arith, c.if-out-lt-LONGEST_LINE.false)) c.put_text-at.ensures.value c.put_text-at.ensures.buf_after in
-    let pair = both a.out.now 0 label (state_text a.counts a.s) (omega (arith, c.if-out-lt-LONGEST_LINE.false, state_short a.counts a.s)) p c.put_state.ensures in
+    let pair = both a.out.now 0 label (state_text a.counts a.s) (omega (arith, c.if-out-lt-LONGEST_LINE.false, state_short a.counts a.s)) p (c.put_state.ensures.value, c.put_state.ensures.out_after) in
     record { value = (line_put a.out.now (start_line a.counts a.s) c.if-out-lt-LONGEST_LINE.false pair).0; out_after = (line_put a.out.now (start_line a.counts a.s) c.if-out-lt-LONGEST_LINE.false pair).1 }

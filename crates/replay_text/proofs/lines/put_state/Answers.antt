@@ -19,4 +19,4 @@ put_links-l-requires c =
 pub returns : goal.returns
 returns c =
     let a = c.args in
-    record { value = (state_put a.out.now a.at a.counts a.s c.fewer-nodes.ensures c.fewer-links.ensures c.requires c.put_word-i.ensures c.put_word-j.ensures c.put_nodes-k.ensures c.put_links-l.ensures c.put_text.ensures.value c.put_text.ensures.buf_after).0; out_after = (state_put a.out.now a.at a.counts a.s c.fewer-nodes.ensures c.fewer-links.ensures c.requires c.put_word-i.ensures c.put_word-j.ensures c.put_nodes-k.ensures c.put_links-l.ensures c.put_text.ensures.value c.put_text.ensures.buf_after).1 }
+    record { value = (state_put a.out.now a.at a.counts a.s c.fewer-nodes.ensures c.fewer-links.ensures c.requires (c.put_word-i.ensures.value, c.put_word-i.ensures.out_after) (c.put_word-j.ensures.value, c.put_word-j.ensures.out_after) (c.put_nodes-k.ensures.value, c.put_nodes-k.ensures.out_after) (c.put_links-l.ensures.value, c.put_links-l.ensures.out_after) c.put_text.ensures.value c.put_text.ensures.buf_after).0; out_after = (state_put a.out.now a.at a.counts a.s c.fewer-nodes.ensures c.fewer-links.ensures c.requires (c.put_word-i.ensures.value, c.put_word-i.ensures.out_after) (c.put_word-j.ensures.value, c.put_word-j.ensures.out_after) (c.put_nodes-k.ensures.value, c.put_nodes-k.ensures.out_after) (c.put_links-l.ensures.value, c.put_links-l.ensures.out_after) c.put_text.ensures.value c.put_text.ensures.buf_after).1 }

@@ -20,5 +20,5 @@ returns c =
     let d = word_length x.status in
     let f = number_length x.setting in
     let a = c.args in
-    let two = both a.out.now a.at (number_text x.flow) (word_text x.status) (omega (arith, c.requires, h, d)) c.put_number-i.ensures c.put_word-j.ensures in
-    record { value = (both a.out.now a.at (number_text x.flow ++ word_text x.status) (number_text x.setting) (omega (arith, c.requires, h, d, f, length-append (number_text x.flow) (word_text x.status))) two c.put_number.ensures).0; out_after = (both a.out.now a.at (number_text x.flow ++ word_text x.status) (number_text x.setting) (omega (arith, c.requires, h, d, f, length-append (number_text x.flow) (word_text x.status))) two c.put_number.ensures).1 }
+    let two = both a.out.now a.at (number_text x.flow) (word_text x.status) (omega (arith, c.requires, h, d)) (c.put_number-i.ensures.value, c.put_number-i.ensures.out_after) (c.put_word-j.ensures.value, c.put_word-j.ensures.out_after) in
+    record { value = (both a.out.now a.at (number_text x.flow ++ word_text x.status) (number_text x.setting) (omega (arith, c.requires, h, d, f, length-append (number_text x.flow) (word_text x.status))) two (c.put_number.ensures.value, c.put_number.ensures.out_after)).0; out_after = (both a.out.now a.at (number_text x.flow ++ word_text x.status) (number_text x.setting) (omega (arith, c.requires, h, d, f, length-append (number_text x.flow) (word_text x.status))) two (c.put_number.ensures.value, c.put_number.ensures.out_after)).1 }

@@ -20,5 +20,5 @@ returns c =
     let d = number_length x.demand in
     let f = number_length x.demand_flow in
     let a = c.args in
-    let two = both a.out.now a.at (number_text x.head) (number_text x.demand) (omega (arith, c.requires, h, d)) c.put_number-i.ensures c.put_number-j.ensures in
-    record { value = (both a.out.now a.at (number_text x.head ++ number_text x.demand) (number_text x.demand_flow) (omega (arith, c.requires, h, d, f, length-append (number_text x.head) (number_text x.demand))) two c.put_number.ensures).0; out_after = (both a.out.now a.at (number_text x.head ++ number_text x.demand) (number_text x.demand_flow) (omega (arith, c.requires, h, d, f, length-append (number_text x.head) (number_text x.demand))) two c.put_number.ensures).1 }
+    let two = both a.out.now a.at (number_text x.head) (number_text x.demand) (omega (arith, c.requires, h, d)) (c.put_number-i.ensures.value, c.put_number-i.ensures.out_after) (c.put_number-j.ensures.value, c.put_number-j.ensures.out_after) in
+    record { value = (both a.out.now a.at (number_text x.head ++ number_text x.demand) (number_text x.demand_flow) (omega (arith, c.requires, h, d, f, length-append (number_text x.head) (number_text x.demand))) two (c.put_number.ensures.value, c.put_number.ensures.out_after)).0; out_after = (both a.out.now a.at (number_text x.head ++ number_text x.demand) (number_text x.demand_flow) (omega (arith, c.requires, h, d, f, length-append (number_text x.head) (number_text x.demand))) two (c.put_number.ensures.value, c.put_number.ensures.out_after)).1 }
