@@ -158,7 +158,12 @@ fn read_piece<R: Read>(from: &mut R, buf: &mut [u8], words: &mut [u32]) -> io::R
 }
 
 // Reads count words, piece by piece, and answers how many there are: none where one is missing, since an image of no words has the same number.
-fn read_words<R: Read>(from: &mut R, buf: &mut [u8], words: &mut [u32], count: usize) -> io::Result<usize>
+fn read_words<R: Read>(
+    from: &mut R,
+    buf: &mut [u8],
+    words: &mut [u32],
+    count: usize,
+) -> io::Result<usize>
     requires { count ≤ length words.old }
     ensures { IfOk result (λ n. n ≤ length words.old) }
 {

@@ -27,5 +27,5 @@ pub returns : goal.returns
 unfolding premise
 returns c =
     let e : Truth c.premise_truth_at.result ≡ premise c.args.p c.args.i c.args.s =
-        rw (← c.in_order.ensures, c.if-not-in_order.false, lt-ltb _ _ c.if-p-i.false, c.premise_truth_at.ensures) in
+    rw (← c.in_order.ensures, c.if-not-in_order.false, lt-ltb _ _ c.if-p-i.false, c.premise_truth_at.ensures) in
     record { value = e; result_value = (premise_answers _ _ _ e).1 }

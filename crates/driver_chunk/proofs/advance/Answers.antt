@@ -56,7 +56,7 @@ loop-t-init c = (sym c.no_table-table.ensures, λ p s b. turns_begun b c.wants_i
 pub overflow_sub-out : goal.overflow_sub-out
 overflow_sub-out c =
     let begun = begins c.args.s c.requires.whole c.well_formed.1.1.0.1.1.0.1.0.1 c.well_formed.1.1.0.1.1.1.0.1.0.1
-        (held_at_first c.args.s c.heads_of-heads.ensures c.demands_of-demands.ensures c.demand_flows_of-demand_flows.ensures c.flows_of-flows.ensures c.statuses_of-statuses.ensures c.settings_of-settings.ensures) c.requires.project c.requires.laid c.requires.same c.requires.ordered in
+    (held_at_first c.args.s c.heads_of-heads.ensures c.demands_of-demands.ensures c.demand_flows_of-demand_flows.ensures c.flows_of-flows.ensures c.statuses_of-statuses.ensures c.settings_of-settings.ensures) c.requires.project c.requires.laid c.requires.same c.requires.ordered in
     let so_far = c.loop-t.invariant.1 c.requires.project c.args.s begun in
     let g = so_far.going in omega (arith, g.put.room, going_length g)
 
@@ -73,14 +73,14 @@ apply_controls-requires c =
 pub slice_bounds-load_left-count : goal.slice_bounds-load_left-count
 slice_bounds-load_left-count c =
     let begun = begins c.args.s c.requires.whole c.well_formed.1.1.0.1.1.0.1.0.1 c.well_formed.1.1.0.1.1.1.0.1.0.1
-        (held_at_first c.args.s c.heads_of-heads.ensures c.demands_of-demands.ensures c.demand_flows_of-demand_flows.ensures c.flows_of-flows.ensures c.statuses_of-statuses.ensures c.settings_of-settings.ensures) c.requires.project c.requires.laid c.requires.same c.requires.ordered in
+    (held_at_first c.args.s c.heads_of-heads.ensures c.demands_of-demands.ensures c.demand_flows_of-demand_flows.ensures c.flows_of-flows.ensures c.statuses_of-statuses.ensures c.settings_of-settings.ensures) c.requires.project c.requires.laid c.requires.same c.requires.ordered in
     let so_far = c.loop-t.invariant.1 c.requires.project c.args.s begun in
     so_far.going.inside
 
 pub slice_bounds-load_left-start : goal.slice_bounds-load_left-start
 slice_bounds-load_left-start c =
     let begun = begins c.args.s c.requires.whole c.well_formed.1.1.0.1.1.0.1.0.1 c.well_formed.1.1.0.1.1.1.0.1.0.1
-        (held_at_first c.args.s c.heads_of-heads.ensures c.demands_of-demands.ensures c.demand_flows_of-demand_flows.ensures c.flows_of-flows.ensures c.statuses_of-statuses.ensures c.settings_of-settings.ensures) c.requires.project c.requires.laid c.requires.same c.requires.ordered in
+    (held_at_first c.args.s c.heads_of-heads.ensures c.demands_of-demands.ensures c.demand_flows_of-demand_flows.ensures c.flows_of-flows.ensures c.statuses_of-statuses.ensures c.settings_of-settings.ensures) c.requires.project c.requires.laid c.requires.same c.requires.ordered in
     let so_far = c.loop-t.invariant.1 c.requires.project c.args.s begun in
     so_far.going.inside
 
@@ -92,7 +92,7 @@ load_left-loaded-requires c =
 pub shape_of-out-then-fault-ne0 : goal.shape_of-out-then-fault-ne0
 shape_of-out-then-fault-ne0 c =
     let begun = begins c.args.s c.requires.whole c.well_formed.1.1.0.1.1.0.1.0.1 c.well_formed.1.1.0.1.1.1.0.1.0.1
-        (held_at_first c.args.s c.heads_of-heads.ensures c.demands_of-demands.ensures c.demand_flows_of-demand_flows.ensures c.flows_of-flows.ensures c.statuses_of-statuses.ensures c.settings_of-settings.ensures) c.requires.project c.requires.laid c.requires.same c.requires.ordered in
+    (held_at_first c.args.s c.heads_of-heads.ensures c.demands_of-demands.ensures c.demand_flows_of-demand_flows.ensures c.flows_of-flows.ensures c.statuses_of-statuses.ensures c.settings_of-settings.ensures) c.requires.project c.requires.laid c.requires.same c.requires.ordered in
     let so_far = c.loop-t.invariant.1 c.requires.project c.args.s begun in
     c.put_refused_line-end.auto.buf ∙ going_length so_far.going
 
@@ -101,7 +101,7 @@ returns-then-fault-ne0 c = λ p laid same ordered.
     let l = c.loop-t in
     let tested = can_now l.wants (length l.out - l.written) l.clock.instant c.args.t.options.duration c.can_step.ensures c.loop-t-test.true in
     let b = begins c.args.s c.requires.whole c.well_formed.1.1.0.1.1.0.1.0.1 c.well_formed.1.1.0.1.1.1.0.1.0.1
-        (held_at_first c.args.s c.heads_of-heads.ensures c.demands_of-demands.ensures c.demand_flows_of-demand_flows.ensures c.flows_of-flows.ensures c.statuses_of-statuses.ensures c.settings_of-settings.ensures) p laid same ordered in
+    (held_at_first c.args.s c.heads_of-heads.ensures c.demands_of-demands.ensures c.demand_flows_of-demand_flows.ensures c.flows_of-flows.ensures c.statuses_of-statuses.ensures c.settings_of-settings.ensures) p laid same ordered in
     turns_refused b (c.loop-t.invariant.1 p c.args.s b) tested.0 tested.1 c.loop-t.table c.loop-t.invariant.0 c.apply_patterns-in_force.ensures.value c.apply_patterns-in_force.ensures.demand_flows_value c.clock_time-hour.ensures c.apply_controls.ensures c.load_left-loaded.ensures c.if-fault-ne0.true c.state_of-state.ensures c.put_refused_line-end.ensures.value c.put_refused_line-end.ensures.buf_after
 
 pub step-length-requires : goal.step-length-requires
@@ -113,7 +113,7 @@ pub overflow_add-used : goal.overflow_add-used
 overflow_add-used c =
     let q = tables_inside c.requires.laid (fit c.requires.project c.args.s c.requires.ordered) in
     let begun = begins c.args.s c.requires.whole c.well_formed.1.1.0.1.1.0.1.0.1 c.well_formed.1.1.0.1.1.1.0.1.0.1
-        (held_at_first c.args.s c.heads_of-heads.ensures c.demands_of-demands.ensures c.demand_flows_of-demand_flows.ensures c.flows_of-flows.ensures c.statuses_of-statuses.ensures c.settings_of-settings.ensures) c.requires.project c.requires.laid c.requires.same c.requires.ordered in
+    (held_at_first c.args.s c.heads_of-heads.ensures c.demands_of-demands.ensures c.demand_flows_of-demand_flows.ensures c.flows_of-flows.ensures c.statuses_of-statuses.ensures c.settings_of-settings.ensures) c.requires.project c.requires.laid c.requires.same c.requires.ordered in
     let so_far = c.loop-t.invariant.1 c.requires.project c.args.s begun in
     omega (arith, taken_inside c.args.input.now c.loop-t.used c.load_left-loaded.ensures so_far.going.inside, c)
 
@@ -121,14 +121,14 @@ pub overflow_sub-input : goal.overflow_sub-input
 overflow_sub-input c =
     let q = tables_inside c.requires.laid (fit c.requires.project c.args.s c.requires.ordered) in
     let begun = begins c.args.s c.requires.whole c.well_formed.1.1.0.1.1.0.1.0.1 c.well_formed.1.1.0.1.1.1.0.1.0.1
-        (held_at_first c.args.s c.heads_of-heads.ensures c.demands_of-demands.ensures c.demand_flows_of-demand_flows.ensures c.flows_of-flows.ensures c.statuses_of-statuses.ensures c.settings_of-settings.ensures) c.requires.project c.requires.laid c.requires.same c.requires.ordered in
+    (held_at_first c.args.s c.heads_of-heads.ensures c.demands_of-demands.ensures c.demand_flows_of-demand_flows.ensures c.flows_of-flows.ensures c.statuses_of-statuses.ensures c.settings_of-settings.ensures) c.requires.project c.requires.laid c.requires.same c.requires.ordered in
     let so_far = c.loop-t.invariant.1 c.requires.project c.args.s begun in
     taken_inside c.args.input.now c.loop-t.used c.load_left-loaded.ensures so_far.going.inside
 
 pub loop-t-smaller : goal.loop-t-smaller
 loop-t-smaller c =
     let begun = begins c.args.s c.requires.whole c.well_formed.1.1.0.1.1.0.1.0.1 c.well_formed.1.1.0.1.1.1.0.1.0.1
-        (held_at_first c.args.s c.heads_of-heads.ensures c.demands_of-demands.ensures c.demand_flows_of-demand_flows.ensures c.flows_of-flows.ensures c.statuses_of-statuses.ensures c.settings_of-settings.ensures) c.requires.project c.requires.laid c.requires.same c.requires.ordered in
+    (held_at_first c.args.s c.heads_of-heads.ensures c.demands_of-demands.ensures c.demand_flows_of-demand_flows.ensures c.flows_of-flows.ensures c.statuses_of-statuses.ensures c.settings_of-settings.ensures) c.requires.project c.requires.laid c.requires.same c.requires.ordered in
     let so_far = c.loop-t.invariant.1 c.requires.project c.args.s begun in
     let l = c.loop-t in
     let tested = can_now l.wants (length l.out - l.written) l.clock.instant c.args.t.options.duration c.can_step.ensures c.loop-t-test.true in
@@ -144,33 +144,33 @@ loop-t-preserved c = let l = c.loop-t in
 pub overflow_sub-out-2 : goal.overflow_sub-out-2
 overflow_sub-out-2 c =
     let begun = begins c.args.s c.requires.whole c.well_formed.1.1.0.1.1.0.1.0.1 c.well_formed.1.1.0.1.1.1.0.1.0.1
-        (held_at_first c.args.s c.heads_of-heads.ensures c.demands_of-demands.ensures c.demand_flows_of-demand_flows.ensures c.flows_of-flows.ensures c.statuses_of-statuses.ensures c.settings_of-settings.ensures) c.requires.project c.requires.laid c.requires.same c.requires.ordered in
+    (held_at_first c.args.s c.heads_of-heads.ensures c.demands_of-demands.ensures c.demand_flows_of-demand_flows.ensures c.flows_of-flows.ensures c.statuses_of-statuses.ensures c.settings_of-settings.ensures) c.requires.project c.requires.laid c.requires.same c.requires.ordered in
     let so_far = c.loop-t.invariant.1 c.requires.project c.args.s begun in
     let g = so_far.going in omega (arith, g.put.room, going_length g)
 
 pub shape_of-out-then-can_turn : goal.shape_of-out-then-can_turn
 shape_of-out-then-can_turn c =
     let begun = begins c.args.s c.requires.whole c.well_formed.1.1.0.1.1.0.1.0.1 c.well_formed.1.1.0.1.1.1.0.1.0.1
-        (held_at_first c.args.s c.heads_of-heads.ensures c.demands_of-demands.ensures c.demand_flows_of-demand_flows.ensures c.flows_of-flows.ensures c.statuses_of-statuses.ensures c.settings_of-settings.ensures) c.requires.project c.requires.laid c.requires.same c.requires.ordered in
+    (held_at_first c.args.s c.heads_of-heads.ensures c.demands_of-demands.ensures c.demand_flows_of-demand_flows.ensures c.flows_of-flows.ensures c.statuses_of-statuses.ensures c.settings_of-settings.ensures) c.requires.project c.requires.laid c.requires.same c.requires.ordered in
     let so_far = c.loop-t.invariant.1 c.requires.project c.args.s begun in
     c.put_steps_line-end.auto.buf ∙ going_length so_far.going
 
 pub returns-then-can_turn : goal.returns-then-can_turn
 returns-then-can_turn c = λ p laid same ordered.
     let b = begins c.args.s c.requires.whole c.well_formed.1.1.0.1.1.0.1.0.1 c.well_formed.1.1.0.1.1.1.0.1.0.1
-        (held_at_first c.args.s c.heads_of-heads.ensures c.demands_of-demands.ensures c.demand_flows_of-demand_flows.ensures c.flows_of-flows.ensures c.statuses_of-statuses.ensures c.settings_of-settings.ensures) p laid same ordered in
+    (held_at_first c.args.s c.heads_of-heads.ensures c.demands_of-demands.ensures c.demand_flows_of-demand_flows.ensures c.flows_of-flows.ensures c.statuses_of-statuses.ensures c.settings_of-settings.ensures) p laid same ordered in
     let can = sym c.can_turn.ensures ∙ c.if-can_turn.true in
     turns_finished b (c.loop-t.invariant.1 p c.args.s b) can (late_now c.loop-t.wants (length c.loop-t.out - c.loop-t.written) c.loop-t.clock.instant c.args.t.options.duration c.can_step.ensures c.loop-t-test.false can) c.state_of-state-2.ensures c.put_steps_line-end.ensures.value c.put_steps_line-end.ensures.buf_after
 
 pub shape_of-out : goal.shape_of-out
 shape_of-out c =
     let begun = begins c.args.s c.requires.whole c.well_formed.1.1.0.1.1.0.1.0.1 c.well_formed.1.1.0.1.1.1.0.1.0.1
-        (held_at_first c.args.s c.heads_of-heads.ensures c.demands_of-demands.ensures c.demand_flows_of-demand_flows.ensures c.flows_of-flows.ensures c.statuses_of-statuses.ensures c.settings_of-settings.ensures) c.requires.project c.requires.laid c.requires.same c.requires.ordered in
+    (held_at_first c.args.s c.heads_of-heads.ensures c.demands_of-demands.ensures c.demand_flows_of-demand_flows.ensures c.flows_of-flows.ensures c.statuses_of-statuses.ensures c.settings_of-settings.ensures) c.requires.project c.requires.laid c.requires.same c.requires.ordered in
     let so_far = c.loop-t.invariant.1 c.requires.project c.args.s begun in
     going_length so_far.going
 
 pub returns : goal.returns
 returns c = λ p laid same ordered.
     let b = begins c.args.s c.requires.whole c.well_formed.1.1.0.1.1.0.1.0.1 c.well_formed.1.1.0.1.1.1.0.1.0.1
-        (held_at_first c.args.s c.heads_of-heads.ensures c.demands_of-demands.ensures c.demand_flows_of-demand_flows.ensures c.flows_of-flows.ensures c.statuses_of-statuses.ensures c.settings_of-settings.ensures) p laid same ordered in
+    (held_at_first c.args.s c.heads_of-heads.ensures c.demands_of-demands.ensures c.demand_flows_of-demand_flows.ensures c.flows_of-flows.ensures c.statuses_of-statuses.ensures c.settings_of-settings.ensures) p laid same ordered in
     turns_ended b (c.loop-t.invariant.1 p c.args.s b) c.state_of-state-2.ensures (sym c.can_turn.ensures ∙ c.if-can_turn.false)

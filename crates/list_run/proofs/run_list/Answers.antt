@@ -67,8 +67,11 @@ run_calls-requires c =
 pub returns : goal.returns
 returns c =
     let a = c.args in
-    record { value = (ran_list a.p a.words.now _ (sym (ap (λ (k : Called). k.number) c.new_with_initial_values-started.ensures) ∙ c.if-number-ne0.false)
-    (sym c.list_ok.ensures ∙ c.if-not-list_ok.false)
-    (c.run_calls.ensures ∙ ap (λ (k : Called). counted_all a.p (calls_of 0 a.words.now) (none_run 0 k.state)) c.new_with_initial_values-started.ensures)).0; answers = (ran_list a.p a.words.now _ (sym (ap (λ (k : Called). k.number) c.new_with_initial_values-started.ensures) ∙ c.if-number-ne0.false)
-    (sym c.list_ok.ensures ∙ c.if-not-list_ok.false)
-    (c.run_calls.ensures ∙ ap (λ (k : Called). counted_all a.p (calls_of 0 a.words.now) (none_run 0 k.state)) c.new_with_initial_values-started.ensures)).1 }
+    record {
+      value = (ran_list a.p a.words.now _ (sym (ap (λ (k : Called). k.number) c.new_with_initial_values-started.ensures) ∙ c.if-number-ne0.false)
+          (sym c.list_ok.ensures ∙ c.if-not-list_ok.false)
+          (c.run_calls.ensures ∙ ap (λ (k : Called). counted_all a.p (calls_of 0 a.words.now) (none_run 0 k.state)) c.new_with_initial_values-started.ensures)).0;
+      answers = (ran_list a.p a.words.now _ (sym (ap (λ (k : Called). k.number) c.new_with_initial_values-started.ensures) ∙ c.if-number-ne0.false)
+          (sym c.list_ok.ensures ∙ c.if-not-list_ok.false)
+          (c.run_calls.ensures ∙ ap (λ (k : Called). counted_all a.p (calls_of 0 a.words.now) (none_run 0 k.state)) c.new_with_initial_values-started.ensures)).1;
+    }

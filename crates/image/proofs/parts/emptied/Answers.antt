@@ -8,7 +8,7 @@ use Rattle.image.proofs.parts.emptied.Goals as goal
 pub returns : goal.returns
 unfolding refused empty_project div of_bits
 returns c = record {
-    value = rw (c.blank_options.ensures, c.no_counts.ensures, c.blank_node.ensures, c.blank_link.ensures, c.blank_control.ensures, c.blank_premise.ensures);
-    lengths_after = refl;
-    multipliers_after = refl;
-  }
+  value = rw (c.blank_options.ensures, c.no_counts.ensures, c.blank_node.ensures, c.blank_link.ensures, c.blank_control.ensures, c.blank_premise.ensures);
+  lengths_after = refl;
+  multipliers_after = refl;
+}

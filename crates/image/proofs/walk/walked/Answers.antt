@@ -20,7 +20,7 @@ pub returns-then-fault-ne0 : goal.returns-then-fault-ne0
 returns-then-fault-ne0 c =
     -- the turn, once its record is read
     let u : Turn c.args.words.now c.loop-at.at c.loop-at.stage (with_patterns c.loop-at.t c.loop-at.lengths c.loop-at.multipliers) c.record-e.result =
-        record { reached = c.loop-at.invariant.reached; here = c.loop-at-test.true; says = c.record-e.ensures } in
+    record { reached = c.loop-at.invariant.reached; here = c.loop-at-test.true; says = c.record-e.ensures } in
     let d = c in
     let q = d.fault_of-fault.ensures in
     record { value = (says_refused _ (turn_refused u (λ z. d.if-fault-ne0.true (q ∙ z)) ∙ ap refused (sym q)) (c.emptied.ensures.value, (c.emptied.ensures.lengths_after, c.emptied.ensures.multipliers_after))).0; lengths_after = (says_refused _ (turn_refused u (λ z. d.if-fault-ne0.true (q ∙ z)) ∙ ap refused (sym q)) (c.emptied.ensures.value, (c.emptied.ensures.lengths_after, c.emptied.ensures.multipliers_after))).1.0; multipliers_after = (says_refused _ (turn_refused u (λ z. d.if-fault-ne0.true (q ∙ z)) ∙ ap refused (sym q)) (c.emptied.ensures.value, (c.emptied.ensures.lengths_after, c.emptied.ensures.multipliers_after))).1.1 }
@@ -29,14 +29,14 @@ pub bounds-ws-0 : goal.bounds-ws-0
 bounds-ws-0 c =
     -- the turn, once its record is read
     let u : Turn c.args.words.now c.loop-at.at c.loop-at.stage (with_patterns c.loop-at.t c.loop-at.lengths c.loop-at.multipliers) c.record-e.result =
-        record { reached = c.loop-at.invariant.reached; here = c.loop-at-test.true; says = c.record-e.ensures } in
+    record { reached = c.loop-at.invariant.reached; here = c.loop-at-test.true; says = c.record-e.ensures } in
     turn_some u
 
 pub slice_bounds-place_multipliers-end : goal.slice_bounds-place_multipliers-end
 slice_bounds-place_multipliers-end c =
     -- the turn, once its record is read
     let u : Turn c.args.words.now c.loop-at.at c.loop-at.stage (with_patterns c.loop-at.t c.loop-at.lengths c.loop-at.multipliers) c.record-e.result =
-        record { reached = c.loop-at.invariant.reached; here = c.loop-at-test.true; says = c.record-e.ensures } in
+    record { reached = c.loop-at.invariant.reached; here = c.loop-at-test.true; says = c.record-e.ensures } in
     let d = c in
     omega (arith, turn_fits u (sym d.fault_of-fault.ensures ∙ d.if-fault-ne0.false))
 
@@ -44,7 +44,7 @@ pub place_multipliers-requires : goal.place_multipliers-requires
 place_multipliers-requires c =
     -- the turn, once its record is read
     let u : Turn c.args.words.now c.loop-at.at c.loop-at.stage (with_patterns c.loop-at.t c.loop-at.lengths c.loop-at.multipliers) c.record-e.result =
-        record { reached = c.loop-at.invariant.reached; here = c.loop-at-test.true; says = c.record-e.ensures } in
+    record { reached = c.loop-at.invariant.reached; here = c.loop-at-test.true; says = c.record-e.ensures } in
     let d = c in
     record { k_bound = omega (arith, d.least-k.ensures); p_bound = turn_few u }
 
@@ -112,7 +112,7 @@ pub place_count-t-requires : goal.place_count-t-requires
 place_count-t-requires c =
     -- the turn, once its record is read
     let u : Turn c.args.words.now c.loop-at.at c.loop-at.stage (with_patterns c.loop-at.t c.loop-at.lengths c.loop-at.multipliers) c.record-e.result =
-        record { reached = c.loop-at.invariant.reached; here = c.loop-at-test.true; says = c.record-e.ensures } in
+    record { reached = c.loop-at.invariant.reached; here = c.loop-at-test.true; says = c.record-e.ensures } in
     let d = c in
     turn_left u
 
@@ -120,28 +120,28 @@ pub overflow_add-at : goal.overflow_add-at
 overflow_add-at c =
     -- the turn, once its record is read
     let u : Turn c.args.words.now c.loop-at.at c.loop-at.stage (with_patterns c.loop-at.t c.loop-at.lengths c.loop-at.multipliers) c.record-e.result =
-        record { reached = c.loop-at.invariant.reached; here = c.loop-at-test.true; says = c.record-e.ensures } in
+    record { reached = c.loop-at.invariant.reached; here = c.loop-at-test.true; says = c.record-e.ensures } in
     omega (arith, turn_fits u (sym c.fault_of-fault.ensures ∙ c.if-fault-ne0.false))
 
 pub overflow_add-at-in-loop-at : goal.overflow_add-at-in-loop-at
 overflow_add-at-in-loop-at c =
     -- the turn, once its record is read
     let u : Turn c.args.words.now c.loop-at.at c.loop-at.stage (with_patterns c.loop-at.t c.loop-at.lengths c.loop-at.multipliers) c.record-e.result =
-        record { reached = c.loop-at.invariant.reached; here = c.loop-at-test.true; says = c.record-e.ensures } in
+    record { reached = c.loop-at.invariant.reached; here = c.loop-at-test.true; says = c.record-e.ensures } in
     omega (arith, c.requires.words_len_bound, turn_fits u (sym c.fault_of-fault.ensures ∙ c.if-fault-ne0.false))
 
 pub loop-at-smaller : goal.loop-at-smaller
 loop-at-smaller c =
     -- the turn, once its record is read
     let u : Turn c.args.words.now c.loop-at.at c.loop-at.stage (with_patterns c.loop-at.t c.loop-at.lengths c.loop-at.multipliers) c.record-e.result =
-        record { reached = c.loop-at.invariant.reached; here = c.loop-at-test.true; says = c.record-e.ensures } in
+    record { reached = c.loop-at.invariant.reached; here = c.loop-at-test.true; says = c.record-e.ensures } in
     omega (arith, turn_fits u (sym c.fault_of-fault.ensures ∙ c.if-fault-ne0.false))
 
 pub loop-at-preserved : goal.loop-at-preserved
 loop-at-preserved c =
     -- the turn, once its record is read
     let u : Turn c.args.words.now c.loop-at.at c.loop-at.stage (with_patterns c.loop-at.t c.loop-at.lengths c.loop-at.multipliers) c.record-e.result =
-        record { reached = c.loop-at.invariant.reached; here = c.loop-at-test.true; says = c.record-e.ensures } in
+    record { reached = c.loop-at.invariant.reached; here = c.loop-at-test.true; says = c.record-e.ensures } in
     let reached = turn_taken u (sym c.fault_of-fault.ensures ∙ c.if-fault-ne0.false) c.stage_of-stage.ensures
     (stored_by _ _ _ (turn_room u) (turn_size u (sym c.fault_of-fault.ensures ∙ c.if-fault-ne0.false)) c.least-k.ensures
     c.least-i.ensures c.least-l.ensures c.least-c.ensures
@@ -155,10 +155,14 @@ returns-then-not-pattern_index_ok c =
     let d = c in
     let ok = d.pattern_index_ok in
     let over = d in
-    record { value = (says_refused 6 (walk_default over.loop-at.invariant over.loop-at-test.false (sym ok.ensures ∙ d.if-not-pattern_index_ok.true))
-    (c.emptied-then-not-pattern_index_ok.ensures.value, (c.emptied-then-not-pattern_index_ok.ensures.lengths_after, c.emptied-then-not-pattern_index_ok.ensures.multipliers_after))).0; lengths_after = (says_refused 6 (walk_default over.loop-at.invariant over.loop-at-test.false (sym ok.ensures ∙ d.if-not-pattern_index_ok.true))
-    (c.emptied-then-not-pattern_index_ok.ensures.value, (c.emptied-then-not-pattern_index_ok.ensures.lengths_after, c.emptied-then-not-pattern_index_ok.ensures.multipliers_after))).1.0; multipliers_after = (says_refused 6 (walk_default over.loop-at.invariant over.loop-at-test.false (sym ok.ensures ∙ d.if-not-pattern_index_ok.true))
-    (c.emptied-then-not-pattern_index_ok.ensures.value, (c.emptied-then-not-pattern_index_ok.ensures.lengths_after, c.emptied-then-not-pattern_index_ok.ensures.multipliers_after))).1.1 }
+    record {
+      value = (says_refused 6 (walk_default over.loop-at.invariant over.loop-at-test.false (sym ok.ensures ∙ d.if-not-pattern_index_ok.true))
+          (c.emptied-then-not-pattern_index_ok.ensures.value, (c.emptied-then-not-pattern_index_ok.ensures.lengths_after, c.emptied-then-not-pattern_index_ok.ensures.multipliers_after))).0;
+      lengths_after = (says_refused 6 (walk_default over.loop-at.invariant over.loop-at-test.false (sym ok.ensures ∙ d.if-not-pattern_index_ok.true))
+          (c.emptied-then-not-pattern_index_ok.ensures.value, (c.emptied-then-not-pattern_index_ok.ensures.lengths_after, c.emptied-then-not-pattern_index_ok.ensures.multipliers_after))).1.0;
+      multipliers_after = (says_refused 6 (walk_default over.loop-at.invariant over.loop-at-test.false (sym ok.ensures ∙ d.if-not-pattern_index_ok.true))
+          (c.emptied-then-not-pattern_index_ok.ensures.value, (c.emptied-then-not-pattern_index_ok.ensures.lengths_after, c.emptied-then-not-pattern_index_ok.ensures.multipliers_after))).1.1;
+    }
 
 pub returns : goal.returns
 returns c =

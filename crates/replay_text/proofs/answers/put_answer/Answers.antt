@@ -13,7 +13,7 @@ unfolding answer_text
 returns-then-number-eq0 c =
     let a = c.args in
     let b = both a.out.now a.at (name_text a.code) (given_text a.code a.seconds a.truth) (omega (arith, c.requires, name_short a.code, given_short a.code a.seconds a.truth))
-        (c.put_name-i.ensures.value, c.put_name-i.ensures.out_after) (c.put_given.ensures.value, c.put_given.ensures.out_after) in
+    (c.put_name-i.ensures.value, c.put_name-i.ensures.out_after) (c.put_given.ensures.value, c.put_given.ensures.out_after) in
     record { value = rw c.if-number-eq0.true b.0; out_after = rw c.if-number-eq0.true b.1 }
 
 pub put_refused-requires : goal.put_refused-requires
@@ -24,5 +24,5 @@ unfolding answer_text
 returns c =
     let a = c.args in
     let b = both a.out.now a.at (name_text a.code) (refused_text a.number) (omega (arith, c.requires, name_short a.code, refused_short a.number))
-        (c.put_name-i.ensures.value, c.put_name-i.ensures.out_after) (c.put_refused.ensures.value, c.put_refused.ensures.out_after) in
+    (c.put_name-i.ensures.value, c.put_name-i.ensures.out_after) (c.put_refused.ensures.value, c.put_refused.ensures.out_after) in
     record { value = rw (ne_eqb a.number 0 c.if-number-eq0.false) b.0; out_after = rw (ne_eqb a.number 0 c.if-number-eq0.false) b.1 }

@@ -52,8 +52,11 @@ shape_of-out c = c.loop-time.invariant.same
 pub returns : goal.returns
 returns c =
     let w = c.awaited_by-awaited.ensures in
-    record { value = (stops_ended c.loop-time.invariant
-    (record { timely = c.requires; noted = (ap (λ (x : Awaited). x.times) w, ap (λ (x : Awaited). x.clocks) w) })
-    (goes_off _ _ _ _ c.loop-time-test.false)).0; out_after = (stops_ended c.loop-time.invariant
-    (record { timely = c.requires; noted = (ap (λ (x : Awaited). x.times) w, ap (λ (x : Awaited). x.clocks) w) })
-    (goes_off _ _ _ _ c.loop-time-test.false)).1 }
+    record {
+      value = (stops_ended c.loop-time.invariant
+          (record { timely = c.requires; noted = (ap (λ (x : Awaited). x.times) w, ap (λ (x : Awaited). x.clocks) w) })
+          (goes_off _ _ _ _ c.loop-time-test.false)).0;
+      out_after = (stops_ended c.loop-time.invariant
+          (record { timely = c.requires; noted = (ap (λ (x : Awaited). x.times) w, ap (λ (x : Awaited). x.clocks) w) })
+          (goes_off _ _ _ _ c.loop-time-test.false)).1;
+    }

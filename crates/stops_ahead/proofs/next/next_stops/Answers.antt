@@ -21,10 +21,14 @@ pub returns-then-not-stops_foreseen : goal.returns-then-not-stops_foreseen
 returns-then-not-stops_foreseen c =
     let fit : tables_ok c.args.p ≡ true = sym c.tables_ok.ensures ∙ c.if-not-tables_ok.false in
     let a = c.args in
-    record { value = (unforeseen_written a.p a.instant a.out.now (fit)
-    (sym c.stops_foreseen.ensures ∙ c.if-not-stops_foreseen.true)).0; result_value = (unforeseen_written a.p a.instant a.out.now (fit)
-    (sym c.stops_foreseen.ensures ∙ c.if-not-stops_foreseen.true)).1.0; out_after = (unforeseen_written a.p a.instant a.out.now (fit)
-    (sym c.stops_foreseen.ensures ∙ c.if-not-stops_foreseen.true)).1.1 }
+    record {
+      value = (unforeseen_written a.p a.instant a.out.now (fit)
+          (sym c.stops_foreseen.ensures ∙ c.if-not-stops_foreseen.true)).0;
+      result_value = (unforeseen_written a.p a.instant a.out.now (fit)
+          (sym c.stops_foreseen.ensures ∙ c.if-not-stops_foreseen.true)).1.0;
+      out_after = (unforeseen_written a.p a.instant a.out.now (fit)
+          (sym c.stops_foreseen.ensures ∙ c.if-not-stops_foreseen.true)).1.1;
+    }
 
 pub times_of-requires : goal.times_of-requires
 times_of-requires c =
@@ -44,7 +48,11 @@ returns c =
     let known : stops_foreseen c.args.p ≡ true = sym c.stops_foreseen.ensures ∙ c.if-not-stops_foreseen.false in
     let a = c.args in
     let f = c.fill.ensures in
-    record { value = (stops_written_lem a.p a.instant a.out.now (fit) (known)
-    c.times_of.ensures f.value f.out_after).0; result_value = (stops_written_lem a.p a.instant a.out.now (fit) (known)
-    c.times_of.ensures f.value f.out_after).1.0; out_after = (stops_written_lem a.p a.instant a.out.now (fit) (known)
-    c.times_of.ensures f.value f.out_after).1.1 }
+    record {
+      value = (stops_written_lem a.p a.instant a.out.now (fit) (known)
+          c.times_of.ensures f.value f.out_after).0;
+      result_value = (stops_written_lem a.p a.instant a.out.now (fit) (known)
+          c.times_of.ensures f.value f.out_after).1.0;
+      out_after = (stops_written_lem a.p a.instant a.out.now (fit) (known)
+          c.times_of.ensures f.value f.out_after).1.1;
+    }

@@ -25,21 +25,25 @@ pub returns-then-rate-2 : goal.returns-then-rate-2
 unfolding gap_time decimal of_bits
 returns-then-rate-2 c =
     let far = wide c.args.gap.0 c.abs.ensures c.if-abs.false in
-    elim c.else-volume.branch
-    [ else-volume-via-then-volume+else-rate w ↦ rw (far, w.if-volume.true, w.if-rate.false, c.if-volume-2.true, c.if-rate-2.true) c.round_to_u64-then-rate-2.ensures
-    | else-volume-via-else-volume w ↦ rw (far, w.if-volume.false, c.if-volume-2.true, c.if-rate-2.true) c.round_to_u64-then-rate-2.ensures ]
+    elim c.else-volume.branch [
+      | else-volume-via-then-volume+else-rate w ↦ rw (far, w.if-volume.true, w.if-rate.false, c.if-volume-2.true, c.if-rate-2.true) c.round_to_u64-then-rate-2.ensures
+      | else-volume-via-else-volume w ↦ rw (far, w.if-volume.false, c.if-volume-2.true, c.if-rate-2.true) c.round_to_u64-then-rate-2.ensures
+    ]
 
 -- not both above 0, and not both below 0
 pub returns : goal.returns
 unfolding gap_time decimal of_bits
 returns c =
     let far = wide c.args.gap.0 c.abs.ensures c.if-abs.false in
-    elim c.else-volume.branch
-    [ else-volume-via-then-volume+else-rate w ↦
-        elim c.else-volume-2.branch
-        [ else-volume-2-via-then-volume-2+else-rate-2 v ↦ rw (far, w.if-volume.true, w.if-rate.false, v.if-volume-2.true, v.if-rate-2.false)
-        | else-volume-2-via-else-volume-2 v ↦ rw (far, w.if-volume.true, w.if-rate.false, v.if-volume-2.false) ]
-    | else-volume-via-else-volume w ↦
-        elim c.else-volume-2.branch
-        [ else-volume-2-via-then-volume-2+else-rate-2 v ↦ rw (far, w.if-volume.false, v.if-volume-2.true, v.if-rate-2.false)
-        | else-volume-2-via-else-volume-2 v ↦ rw (far, w.if-volume.false, v.if-volume-2.false) ] ]
+    elim c.else-volume.branch [
+      | else-volume-via-then-volume+else-rate w ↦
+          elim c.else-volume-2.branch [
+            | else-volume-2-via-then-volume-2+else-rate-2 v ↦ rw (far, w.if-volume.true, w.if-rate.false, v.if-volume-2.true, v.if-rate-2.false)
+            | else-volume-2-via-else-volume-2 v ↦ rw (far, w.if-volume.true, w.if-rate.false, v.if-volume-2.false)
+          ]
+      | else-volume-via-else-volume w ↦
+          elim c.else-volume-2.branch [
+            | else-volume-2-via-then-volume-2+else-rate-2 v ↦ rw (far, w.if-volume.false, v.if-volume-2.true, v.if-rate-2.false)
+            | else-volume-2-via-else-volume-2 v ↦ rw (far, w.if-volume.false, v.if-volume-2.false)
+          ]
+    ]

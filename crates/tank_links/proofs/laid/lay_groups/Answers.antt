@@ -31,7 +31,7 @@ overflow_cast-j c =
 
 pub overflow_cast-begins : goal.overflow_cast-begins
 overflow_cast-begins c =
-    let fits : c.loop-k.at + length (on_chain c.chain_links.new.into c.chain_links.new.next_into c.args.nodes.now c.loop-k.k)     + length (on_chain c.chain_links.new.out c.chain_links.new.next_out c.args.nodes.now c.loop-k.k) ≤ 768 = let a = c in
+    let fits : c.loop-k.at + length (on_chain c.chain_links.new.into c.chain_links.new.next_into c.args.nodes.now c.loop-k.k) + length (on_chain c.chain_links.new.out c.chain_links.new.next_out c.args.nodes.now c.loop-k.k) ≤ 768 = let a = c in
     let e = c.chain_links.ensures in
     omega (arith, c.loop-k.invariant.to, group_fits a.args.table e.chains e.chains_2 a.requires.tanks_inside.0 a.requires.tanks_inside.1 a.requires.ends_inside.most c.loop-k.k c.loop-k-test.true) in
     omega (arith, fits)
@@ -58,14 +58,14 @@ bounds-into-j c =
 
 pub put_chain-middle-requires : goal.put_chain-middle-requires
 put_chain-middle-requires c =
-    let fits : c.loop-k.at + length (on_chain c.chain_links.new.into c.chain_links.new.next_into c.args.nodes.now c.loop-k.k)     + length (on_chain c.chain_links.new.out c.chain_links.new.next_out c.args.nodes.now c.loop-k.k) ≤ 768 = let a = c in
+    let fits : c.loop-k.at + length (on_chain c.chain_links.new.into c.chain_links.new.next_into c.args.nodes.now c.loop-k.k) + length (on_chain c.chain_links.new.out c.chain_links.new.next_out c.args.nodes.now c.loop-k.k) ≤ 768 = let a = c in
     let e = c.chain_links.ensures in
     omega (arith, c.loop-k.invariant.to, group_fits a.args.table e.chains e.chains_2 a.requires.tanks_inside.0 a.requires.tanks_inside.1 a.requires.ends_inside.most c.loop-k.k c.loop-k-test.true) in
     record { rising = c.chain_links.ensures.chains.rising; first_bound = omega (arith, fits) }
 
 pub overflow_cast-middles : goal.overflow_cast-middles
 overflow_cast-middles c =
-    let fits : c.loop-k.at + length (on_chain c.chain_links.new.into c.chain_links.new.next_into c.args.nodes.now c.loop-k.k)     + length (on_chain c.chain_links.new.out c.chain_links.new.next_out c.args.nodes.now c.loop-k.k) ≤ 768 = let a = c in
+    let fits : c.loop-k.at + length (on_chain c.chain_links.new.into c.chain_links.new.next_into c.args.nodes.now c.loop-k.k) + length (on_chain c.chain_links.new.out c.chain_links.new.next_out c.args.nodes.now c.loop-k.k) ≤ 768 = let a = c in
     let e = c.chain_links.ensures in
     omega (arith, c.loop-k.invariant.to, group_fits a.args.table e.chains e.chains_2 a.requires.tanks_inside.0 a.requires.tanks_inside.1 a.requires.ends_inside.most c.loop-k.k c.loop-k-test.true) in
     omega (arith, c.put_chain-middle.ensures.value, fits)
@@ -92,7 +92,7 @@ bounds-out-j c =
 
 pub put_chain-at-requires : goal.put_chain-at-requires
 put_chain-at-requires c =
-    let fits : c.loop-k.at + length (on_chain c.chain_links.new.into c.chain_links.new.next_into c.args.nodes.now c.loop-k.k)     + length (on_chain c.chain_links.new.out c.chain_links.new.next_out c.args.nodes.now c.loop-k.k) ≤ 768 = let a = c in
+    let fits : c.loop-k.at + length (on_chain c.chain_links.new.into c.chain_links.new.next_into c.args.nodes.now c.loop-k.k) + length (on_chain c.chain_links.new.out c.chain_links.new.next_out c.args.nodes.now c.loop-k.k) ≤ 768 = let a = c in
     let e = c.chain_links.ensures in
     omega (arith, c.loop-k.invariant.to, group_fits a.args.table e.chains e.chains_2 a.requires.tanks_inside.0 a.requires.tanks_inside.1 a.requires.ends_inside.most c.loop-k.k c.loop-k-test.true) in
     record { rising = c.chain_links.ensures.chains_2.rising; first_bound = omega (arith, c.put_chain-middle.ensures.value, fits) }
