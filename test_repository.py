@@ -132,7 +132,11 @@ class Sources(unittest.TestCase):
         """R-10: of other crates it has types, what reads the tables, and the judgement; no function works out a step."""
         sources = [path.read_text() for path in sorted((CRATES / "second_clock" / "src").glob("*.rt"))]
         code = re.sub(r"^ghost .*|//.*", "", "\n".join(sources), flags=re.M)
-        named = {name for name in re.findall(r"^use ([\w:*]+);", code, re.M) if not name.startswith("crate::")}
+        uses = re.findall(r"^(?:pub )?use ([\w:]+?)(?:::\{([\w\s,*]+)\}|(::\*)?);", code, re.M)
+        self.assertEqual(len(uses), len(re.findall(r"\buse\b", code)))
+        named = {f"{path}::{name}" for path, names, _ in uses for name in re.findall(r"[\w*]+", names)}
+        named |= {path + star for path, names, star in uses if not names}
+        named = {name for name in named if not name.startswith(("crate::", "step::"))}
         types = {"calls::StepCalled", "clock::Clock", "clock::Times", "model::*"}
         reading = {"awaited::awaited_by", "judge::in_order", "simulation::no_tanks", "simulation::times_of"}
         self.assertEqual(named - types, reading)

@@ -1,4 +1,4 @@
-"""The programs, proved and built by `rt check`, and what is said while that goes on."""
+"""The programs, proved and built by `rt run`, and what is said while that goes on."""
 
 import os
 import re
@@ -13,22 +13,27 @@ from reader.programs import started
 QUIET = 2.0  # seconds: what takes no longer is not spoken of
 LAST_LINES = 20  # of the log, where a proof fails
 
-PROVED = re.compile(r"rt: (\S+) proved \((?:(\d+) s|unchanged .*)\)")
+CHECKED = re.compile(r"crate (\S+): modules loaded=.*")
+PROVED = re.compile(r"logic=proved .*")
+RUNS = re.compile(r"rt: running out/(\S+);.*")
 
 
 def reached(table, programs):
-    """The crates of crates.txt that the programs stand on, themselves among them."""
-    needs = {}
+    """The crates of crates.txt that the programs stand on, themselves among them, in rt's order: each behind those that it uses."""
+    needs, found = {}, []
     for line in table.splitlines():
         name, colon, needed = line.split("#", 1)[0].partition(":")
         if colon:
             needs[name.strip()] = needed.split()
-    found, waiting = set(), list(programs)
-    while waiting:
-        name = waiting.pop()
+
+    def add(name):
         if name in needs and name not in found:
-            found.add(name)
-            waiting += needs[name]
+            for needed in needs[name]:
+                add(needed)
+            found.append(name)
+
+    for name in programs:
+        add(name)
     return found
 
 
@@ -41,9 +46,9 @@ class Progress:
 
     def __init__(self, programs, crates, first, say, clock):
         self.crates, self.say, self.clock = crates, say, clock
-        self.began = clock()
-        self.done = self.proved = 0
-        self.title = f"proving and building {' and '.join(programs)}, {crates} crates"
+        self.began = self.last = clock()
+        self.name, self.proved = None, 0
+        self.title = f"proving and building {' and '.join(programs)}, {len(crates)} crates"
         self.told = False
         if first:
             self.title += "; this first time takes minutes"
@@ -60,21 +65,21 @@ class Progress:
         self.tell()
 
     def line(self, text):
-        """Takes a line of rt's."""
-        match = PROVED.fullmatch(text)
-        if not match:
-            return
-        self.done += 1
-        if match[2] is None:
-            return
-        self.proved += 1
-        if self.told or self.clock() - self.began > QUIET:
-            self.tell()
-            self.say(f"[{self.done}/{self.crates}] {match[1]}, {match[2]} s{self.rest()}")
+        """Takes a line of rt's. Of a crate that is unchanged it says nothing; it takes them in their order."""
+        if match := CHECKED.fullmatch(text):
+            self.name = match[1]
+        elif PROVED.fullmatch(text) and self.name in self.crates:
+            now = self.clock()
+            seconds, self.last = now - self.last, now
+            self.proved += 1
+            if self.told or now - self.began > QUIET:
+                self.tell()
+                done = self.crates.index(self.name) + 1
+                self.say(f"[{done}/{len(self.crates)}] {self.name}, {round(seconds)} s{self.rest(len(self.crates) - done)}")
+            self.name = None
 
-    def rest(self):
+    def rest(self, left):
         """How many are left, and how long they take at the pace of those proved so far."""
-        left = self.crates - self.done
         if not left:
             return ""
         pace = (self.clock() - self.began) / self.proved
@@ -96,34 +101,47 @@ def lines_of(pipe):
         yield from (line.decode(errors="replace") for line in whole)
 
 
-def follow(command, root, log, progress):
-    """Runs rt to its end, keeps what it says in the log, and answers its status."""
-    with started(command, cwd=root, stdin=subprocess.DEVNULL, stderr=subprocess.STDOUT) as process:
+def follow(command, folder, given, log, progress):
+    """Runs rt to its end in a crate's folder, keeps what it says in the log, and answers its status and the lines of the program that it ran, None for none."""
+    printed = None
+    with started(command, cwd=folder, stdin=given, stderr=subprocess.STDOUT) as process:
         for line in lines_of(process.stdout):
             if line is None:
                 progress.waited()
+                continue
+            print(line, file=log, flush=True)
+            if printed is not None:
+                printed.append(line)
+            elif RUNS.fullmatch(line):
+                printed = []
             else:
-                print(line, file=log, flush=True)
                 progress.line(line)
-        return process.wait()
+        return process.wait(), printed
+
+
+def run_once(root, name, log, progress):
+    """Proves and builds a program, and holds what it prints for its crate's stdin to its crate's stdout; answers whether all is well."""
+    folder = root / "crates" / name
+    with (folder / "stdin").open("rb") as given:
+        status, printed = follow(["rt", "run"], folder, given, log, progress)
+    return status == 0 and printed == (folder / "stdout").read_text().splitlines()
 
 
 def build(root, programs, say):
     """Proves and builds programs of the repository; answers their paths."""
     if not shutil.which("rt"):
         raise Failure("there is no rt on the PATH: the Rattle toolchain builds the programs")
-    paths = [root / "target" / "bin" / name for name in programs]
-    crates = len(reached((root / "crates.txt").read_text(), programs))
+    paths = [root / "crates" / name / "out" / name for name in programs]
+    crates = reached((root / "crates.txt").read_text(), programs)
     progress = Progress(programs, crates, not all(path.exists() for path in paths), say, time.monotonic)
     (root / "target").mkdir(exist_ok=True)
     log = root / "target" / "run.log"
     with log.open("w") as file:
-        status = follow(["rt", "check", *programs], root, file, progress)
-    if status:
-        for line in log.read_text().splitlines()[-LAST_LINES:]:
-            say(line)
-        raise Failure(f"rt check {' '.join(programs)} failed; target/run.log has all that it said")
-    for path in paths:
-        if not os.access(path, os.X_OK):
-            raise Failure(f"rt made no {path}")
+        for name, path in zip(programs, paths):
+            if not run_once(root, name, file, progress):
+                for line in log.read_text().splitlines()[-LAST_LINES:]:
+                    say(line)
+                raise Failure(f"rt run in crates/{name} failed; target/run.log has all that it said")
+            if not os.access(path, os.X_OK):
+                raise Failure(f"rt made no {path}")
     return paths

@@ -42,7 +42,7 @@ In the events a tank is full or empty, or at a control's level, when less than h
 length of a step; rising and falling say how it came there. Names are those of FILE.txt beside FILE.image, if it is the
 text of that image; else they are made of sort and index as in tools/README.md: T1, J2, pipe0, pump1.
 
-The programs are built by `rt check`; the first time that proves every crate they stand on, and takes minutes.
+The programs are built by `rt run`; the first time that proves every crate they stand on, and takes minutes.
 
 Exit status: 0; 1 refused, or no stops known, and standard error says why; 2 the command, a file or a proof is wrong;
 3 a program died or printed what cannot be; 130 interrupted.

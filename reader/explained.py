@@ -3,7 +3,7 @@
 
     reader/explained.py FIRST LAST
 
-For each seed it runs target/bin/driver and target/bin/replay on a driver's input of compare/rust/generate.py. Every
+For each seed it runs crates/driver/out/driver and crates/replay/out/replay on a driver's input of compare/rust/generate.py. Every
 link that the controls change has a control that is active, every link that closing closes has a tank that closes it and
 the other way round, every refusal the decoder's reason. It prints what it has seen, and stops at what has no reason.
 """
@@ -26,7 +26,7 @@ import image_decode  # noqa: E402
 sys.path.append(str(ROOT / "compare" / "rust"))
 import generate  # noqa: E402
 
-DRIVER, REPLAY = ROOT / "target" / "bin" / "driver", ROOT / "target" / "bin" / "replay"
+DRIVER, REPLAY = (ROOT / "crates" / name / "out" / name for name in ("driver", "replay"))
 TEMP_CLOSED = 1
 
 

@@ -19,13 +19,21 @@ ROOT = pathlib.Path(__file__).resolve().parent.parent
 STOCK, STORED = ROOT / "stock", ROOT / "reader" / "stored"
 
 RT = """#!/bin/sh
-[ -z "${RT_FAILS-}" ] || { echo 'rt: number NOT PROVED (exit 1, 4 s)'; exit 1; }
-[ -z "${RT_WAITS-}" ] || { sleep 600 & echo $! >sleeps; wait; }
-echo 'rt: number proved (unchanged since it was last proved)'
-echo 'rt: driver proved (17 s)'
-mkdir -p target/bin
-shift
-for name; do cp "bin/$name" target/bin; done
+[ "$*" = run ] || { echo "rt: $* is not what is asked of it"; exit 2; }
+[ -z "${RT_FAILS-}" ] || { echo 'fn number::bits: not proved'; echo 'logic=not-proved functions=14'; exit 1; }
+[ -z "${RT_WAITS-}" ] || { sleep 600 & echo $! >../../sleeps; wait; }
+name=${PWD##*/}
+for crate in number "$name"; do
+    echo "crate $crate: modules loaded=148 checked=5"
+    echo 'logic=proved functions=5 sum=dac8208d650f15bf'
+done
+mkdir -p out
+cp "../../bin/$name" out
+echo "rt: running out/$name; to give it other input, run that file yourself"
+cmp -s - stdin || { echo "rt: the input is another"; exit 1; }
+cat stdout
+[ -z "${RT_ADDS-}" ] || echo 36
+exit "${RT_ENDS-0}"
 """
 
 DRIVER = f"""#!{sys.executable} -S
@@ -68,6 +76,10 @@ class Copied(unittest.TestCase):
             shutil.copy(ROOT / name, self.root)
         for name in ("reader", "tools", "stock"):
             shutil.copytree(ROOT / name, self.root / name, ignore=shutil.ignore_patterns("__pycache__"))
+        for name in ("driver", "replay", "timetable"):
+            (self.root / "crates" / name).mkdir(parents=True)
+            for file in ("stdin", "stdout"):
+                shutil.copy(ROOT / "crates" / name / file, self.root / "crates" / name)
         bin_folder = self.root / "bin"
         bin_folder.mkdir()
         for name, text in self.stand_ins.items():
@@ -127,10 +139,10 @@ class Listings(Copied):
         link.symlink_to(self.root / "run")
         self.assertEqual(self.run_it("coldash", command=link).stdout, listing("coldash"))
 
-    def test_only_target_is_left_behind(self):
+    def test_only_target_and_what_rt_makes_is_left_behind(self):
         before = sorted(path for path in self.root.rglob("*"))
         self.run_it("--times")
-        after = sorted(path for path in self.root.rglob("*") if "target" not in path.parts)
+        after = sorted(path for path in self.root.rglob("*") if not {"target", "out"} & {*path.parts})
         self.assertEqual(after, before)
 
     def test_times_with_the_day_of_the_end_where_it_is_another(self):
@@ -253,8 +265,16 @@ class Wrong(Copied):
     def test_a_failed_proof_is_told(self):
         done = self.run_it(RT_FAILS="yes")
         self.assertEqual((done.returncode, done.stdout), (2, ""))
-        self.assertIn("number NOT PROVED", done.stderr)
-        self.assertIn("run: rt check driver failed; target/run.log has all that it said\n", done.stderr)
+        self.assertIn("fn number::bits: not proved", done.stderr)
+        failed = "run: rt run in crates/driver failed; target/run.log has all that it said\n"
+        self.assertIn(failed, done.stderr)
+
+    def test_a_program_that_rt_sees_fail_is_told(self):
+        """Proved, but it prints something else than its crate's stdout, or ends with another status than 0."""
+        for wrong in ({"RT_ADDS": "yes"}, {"RT_ENDS": "3"}):
+            done = self.run_it(**wrong)
+            self.assertEqual((done.returncode, done.stdout), (2, ""))
+            self.assertTrue(done.stderr.endswith("run: rt run in crates/driver failed; target/run.log has all that it said\n"))
 
     def test_a_missing_toolchain_is_told(self):
         (self.root / "bin" / "rt").unlink()
@@ -266,8 +286,9 @@ class Wrong(Copied):
 class Progress(Copied):
     def test_the_first_build_speaks(self):
         lines = self.run_it().stderr.splitlines()
-        self.assertEqual(lines[0], "run: proving and building driver, 65 crates; this first time takes minutes")
-        self.assertRegex(lines[1], r"^\[2/65\] driver, 17 s; 63 left, about \d+ s$")
+        self.assertEqual(lines[0], "run: proving and building driver, 66 crates; this first time takes minutes")
+        self.assertRegex(lines[1], r"^\[1/66\] number, \d+ s; 65 left, about \d+ s$")
+        self.assertRegex(lines[2], r"^\[66/66\] driver, \d+ s$")
 
     def test_the_next_is_silent(self):
         self.run_it()

@@ -369,12 +369,12 @@ class Commands(Own):
 
     def beside(self, name):
         """What the stand-in has written."""
-        return (self.root / "target" / "bin" / name).read_text()
+        return (self.root / "crates" / "replay" / "out" / name).read_text()
 
     def test_the_listing_of_the_stock_without_a_driver(self):
         done = self.run_it("--slow", "coldash", DRIVER_DIES="11")
         self.assertEqual((done.returncode, done.stdout), (0, test_command.listing("coldash")))
-        self.assertFalse((self.root / "target" / "bin" / "driver").exists())
+        self.assertFalse((self.root / "crates" / "driver" / "out").exists())
         self.assertIn("run: proving and building replay, ", done.stderr)
 
     def test_a_file_and_standard_input(self):
@@ -487,7 +487,7 @@ class Commands(Own):
 
     def test_interrupted_it_leaves_nothing_running(self):
         does = "(beside / 'waits').touch(); time.sleep(600)"
-        waits = self.root / "target" / "bin" / "waits"
+        waits = self.root / "crates" / "replay" / "out" / "waits"
         for number, status in ((signal.SIGINT, 130), (signal.SIGTERM, 143)):
             process = subprocess.Popen(
                 [self.root / "run", "--slow", self.write(text())], cwd=self.place,

@@ -250,7 +250,7 @@ class Commands(test_slow.Own):
         self.assertEqual(done.returncode, 0)
         self.assertEqual(done.stdout, "".join(f"{instant}\n" for instant in instants) + "steps 22\n")
         self.assertIn("run: proving and building timetable, ", done.stderr)
-        built = [path.name for path in (self.root / "target" / "bin").iterdir()]
+        built = [path.name for path in self.root.glob("crates/*/out/*")]
         self.assertEqual(built, ["timetable"])
 
     def test_a_file_a_text_and_standard_input(self):

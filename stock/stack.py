@@ -1,8 +1,8 @@
 #!/usr/bin/env python3
 """Runs a driver with little stack on every works of the stock, and holds what it prints to the stored listings.
 
-    stock/stack.py target/bin/driver
-    stock/stack.py --least target/bin/driver
+    stock/stack.py crates/driver/out/driver
+    stock/stack.py --least crates/driver/out/driver
 
 Says nothing where all is well; exit status 1 and a line for each works where it is not. With --least, the smallest limit
 by steps of 4 KiB under which each works runs.

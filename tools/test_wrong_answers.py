@@ -4,6 +4,7 @@ import io
 import pathlib
 import tempfile
 import unittest
+from unittest import mock
 
 import wrong_answers
 from wrong_answers import faults, judged, together, tried
@@ -11,7 +12,7 @@ from wrong_answers import faults, judged, together, tried
 ROOT = pathlib.Path(__file__).resolve().parent.parent
 
 SOURCE = """pub fn depth(level: f64) -> f64
-    ensures { λ r. ⌜ r ≡ depthOf level ⌝ }
+    ensures { result ≡ depth_of level }
 {
     if level < 0.0 {
         return 0.0;
@@ -20,21 +21,21 @@ SOURCE = """pub fn depth(level: f64) -> f64
 }
 
 pub fn area(width: f64) -> f64
-    ensures { λ r. ⌜ r ≡ areaOf width ⌝ }
+    ensures value { result ≡ area_of width }
 {
     width * width
 }
 """
 SPECS = """-- a depth is never below 0
-unfoldable pub depthOf : Float → Float
-depthOf x = cond (lt x zero) zero x
+unfoldable pub depth_of : Float → Float
+depth_of x = cond (lt x zero) zero x
 
 -- square
 abbrev pub square : Float → Float
 square x = x · x
 
-unfoldable pub areaOf : Float → Float
-areaOf x = square x
+unfoldable pub area_of : Float → Float
+area_of x = square x
 """
 DEPTH = ("wrong: depth_at_zero", "refused: depth", "file: src/lib.rt", "old: level < 0.0", "new: level > 0.0")
 AREA = ("wrong: area_doubled", "refused: area", "file: src/lib.rt", "old: width * width", "new: width + width")
@@ -59,15 +60,17 @@ class Folder(unittest.TestCase):
     def edit(self, *answers):
         return together(self.write("must-fail/first.edit", "\n\n".join("\n".join(lines) for lines in answers) + "\n"))
 
-    def log(self, text):
-        path = self.root / "target" / "must-fail" / "shapes" / "first" / ".log"
-        path.parent.mkdir(parents=True, exist_ok=True)
-        path.write_text(text)
-        return path
+    def said(self, *words, log=""):
+        """The status and the words of the command, where the check of an edit says this."""
+        asked = []
 
-    def said(self):
-        with contextlib.redirect_stdout(io.StringIO()) as said:
-            status = wrong_answers.main(self.root)
+        def check(crate, answers):
+            asked.append((crate.name, [answer.label for answer in answers]))
+            return log
+
+        with contextlib.redirect_stdout(io.StringIO()) as said, contextlib.redirect_stderr(io.StringIO()):
+            status = wrong_answers.main(self.root, words, check)
+        self.asked = asked
         return status, said.getvalue()
 
 
@@ -107,7 +110,7 @@ class Form(Folder):
         self.assertEqual(self.found((*AREA[:1], "refused: depth", *AREA[2:])), ["area_doubled: it changes no function that it names"])
 
     def test_a_change_of_a_contract(self):
-        contract = (*AREA[:3], "old: areaOf width", "new: depthOf width")
+        contract = (*AREA[:3], "old: area_of width", "new: depth_of width")
         self.assertEqual(self.found(DEPTH, contract), [])
         self.write("src/lib.rt", SOURCE.replace("    level\n", "    area(level) / level\n"))
         self.assertEqual(self.found(DEPTH, contract), ["area_doubled: it changes the contract of a function that depth calls"])
@@ -124,11 +127,11 @@ class Form(Folder):
 class Judged(Folder):
     """By what the prover says of a check."""
 
-    OWN = "/r/proofs/depth/Proof.antt:6:13: error: `returns`: the two types differ\nfn shapes::depth: not proved\n"
-    BARE = "fn shapes::area: no proof: expected `area-spec` in /r/proofs/area/Proof.antt; `search` does not close `returns`\n"
+    OWN = "/r/proofs/depth/Answers.antt:6:13: error: `returns`: the two types differ\nfn shapes::depth: not proved\n"
+    BARE = "fn shapes::area: no proof: expected answers in /r/proofs/area/Answers.antt; `search` did not prove `returns`\n"
 
     def found(self, text, *answers):
-        return list(judged(self.edit(*answers), self.log(text)))
+        return list(judged(self.edit(*answers), text))
 
     def test_both_refused(self):
         self.assertEqual(self.found(self.OWN + self.BARE, DEPTH, AREA), [])
@@ -137,32 +140,62 @@ class Judged(Folder):
         self.assertEqual(self.found(self.OWN + "fn shapes::area: proved\n", DEPTH, AREA), ["area_doubled is accepted by area"])
 
     def test_refused_for_what_it_calls_alone(self):
-        for said in ("not proved", "no proof: expected `area-spec` in /r/proofs/area/Proof.antt"):
-            called = f"fn shapes::area: {said}; it calls `shapes::depth`, which is not proved\n"
+        because = "it calls `shapes::depth`, which is not proved"
+        for said in (f"not proved; {because}", f"no proof: expected answers in /r/proofs/area/Answers.antt; {because}",
+                     f"no proof: {because}", "no proof: it calls `shapes::depth` and `shapes::width`, which are not proved"):
+            called = f"fn shapes::area: {said}\n"
             for answer in (AREA, SQUARE):
                 self.assertEqual(self.found(self.OWN + called, DEPTH, answer), [f"{answer[0][7:]} is accepted by area"])
+            self.assertEqual(self.found(self.OWN + called, DEPTH), [])
 
     def test_refused_for_its_own_code_and_for_what_it_calls(self):
-        error = "/r/proofs/area/Proof.antt:7:2: error: `returns`: the two types differ\n"
+        error = "/r/proofs/area/Answers.antt:7:2: error: `returns`: the two types differ\n"
         called = "fn shapes::area: not proved; it calls `shapes::depth`, which is not proved\n"
         self.assertEqual(self.found(self.OWN + error + called, DEPTH, AREA), [])
 
     def test_code_that_is_refused_only_because_a_law_is(self):
-        error = "/r/proofs/area/Proof.antt:9:5: error: `area-spec`: `law` was not admitted, so this cannot be checked\n"
-        law = error + "fn shapes::area: not proved\n"
-        self.assertEqual(self.found(self.OWN + law, DEPTH, AREA), ["area_doubled is accepted by area"])
-        self.assertEqual(self.found(self.OWN + law, DEPTH, SQUARE), [])
+        for said in ("`area`: `law` was not admitted, so this cannot be checked",
+                     "1 declaration that depends on `law`, which was rejected, was not checked: returns"):
+            law = f"/r/proofs/area/Answers.antt:9:5: error: {said}\nfn shapes::area: not proved\n"
+            self.assertEqual(self.found(self.OWN + law, DEPTH, AREA), ["area_doubled is accepted by area"])
+            self.assertEqual(self.found(self.OWN + law, DEPTH, SQUARE), [])
 
     def test_a_function_that_none_names(self):
         self.assertEqual(self.found(self.OWN + self.BARE, DEPTH), ["area is refused, and none of its wrong answers names it"])
 
     def test_the_command(self):
         self.edit(DEPTH, AREA)
-        self.assertEqual(self.said(), (1, "shapes/first: it was not tried\n"))
-        self.log(self.OWN)
-        self.assertEqual(self.said(), (1, "shapes/first: area_doubled is accepted by area\n"))
-        self.log(self.OWN + self.BARE)
+        untried = (1, "shapes/first: it was not tried as it stands; tools/wrong_answers.py try shapes does that\n")
+        self.assertEqual(self.said(), untried)
+        self.assertEqual(self.said("try", log=self.OWN), (1, "shapes/first: area_doubled is accepted by area\n"))
+        self.assertEqual(self.said(), untried)
+        self.assertEqual(self.said("try", "shapes", log=self.OWN + self.BARE), (0, ""))
+        self.assertEqual(self.asked, [("shapes", ["depth_at_zero", "area_doubled"])])
         self.assertEqual(self.said(), (0, ""))
+        self.assertEqual(self.said("try", log=self.OWN), (0, ""))
+        self.assertEqual(self.asked, [])
+
+    def test_what_has_changed_is_tried_again(self):
+        changes = (("src/lib.rt", SOURCE + "\n"), ("specs/Shapes.antt", SPECS + "\n"), ("proofs/area/Answers.antt", "x\n"))
+        edit = self.crate / "must-fail" / "first.edit"
+        self.edit(DEPTH, AREA)
+        for path, text in (*changes, ("must-fail/first.edit", edit.read_text() + "\n")):
+            self.assertEqual(self.said("try", log=self.OWN + self.BARE), (0, ""))
+            self.write(path, text)
+            self.assertEqual(self.said()[0], 1, path)
+
+    def test_a_check_that_refuses_nothing_is_not_noted(self):
+        self.edit(DEPTH, AREA)
+        for log in ("rt: the library sum did not build, so nothing above it was checked\n", "fn shapes::area: proved\n"):
+            self.assertEqual(self.said("try", log=log)[0], 1)
+            self.assertEqual(self.said()[0], 1)
+
+    def test_a_check_is_of_the_wrong_answers_and_puts_them_back(self):
+        answers, seen = self.edit(DEPTH, AREA), []
+        with mock.patch("subprocess.run", lambda *_, cwd, **__: seen.append((cwd / "src/lib.rt").read_text()) or mock.Mock()):
+            wrong_answers.checked(self.crate, answers)
+        self.assertEqual(seen, [SOURCE.replace("level < 0.0", "level > 0.0").replace("width * width", "width + width")])
+        self.assertEqual((self.crate / "src/lib.rt").read_text(), SOURCE)
 
 
 class Repository(unittest.TestCase):

@@ -1,28 +1,40 @@
 #!/usr/bin/env python3
 """Whether the prover refused every wrong answer for itself, where one check tries several.
 
-    tools/wrong_answers.py [ROOT]
+    tools/wrong_answers.py                 every such edit has been tried as it and its crate stand; the gate asks this
+    tools/wrong_answers.py try [CRATE ..]  tries those that have not been, and notes in tools/tried.txt where all is well
 
-It reads the logs that `rt ci` or `rt must-fail` left below ROOT/target/must-fail. It says nothing where all is well; exit
-status 1 and a line for each wrong answer where it is not. docs/CONTRIBUTING.md has the form of an edit.
+It says nothing where all is well; exit status 1 and a line for each wrong answer where it is not. docs/CONTRIBUTING.md
+has the form of an edit. tools/tried.txt has a line for each edit of several wrong answers that was tried and was well,
+with the sum of the texts that stood then: the edit's, and its crate's src/, specs/ and proofs/. The prover's words for
+an edit are kept by no command of rt's, and a check of each would take the gate half an hour.
 
-rt sees to it that an edit is refused. In an edit of several wrong answers one that is accepted would hide behind the
-others. So each names the functions that have to be refused for it: where their code is changed, by an error of their own
-proof that does not follow from another; where a definition is, not because they call another that is refused. No other
-function may be refused. No function is named by two of one edit, no definition is changed that the contract of another's
-function, or of one that it calls, comes to, and no contract of one that it calls (`faults`; a test asks it of every edit).
+`rt ci` sees to it that an edit is refused. In an edit of several wrong answers one that is accepted would hide behind
+the others. So each names the functions that have to be refused for it: where their code is changed, by an error of their
+own proof that does not follow from another; where a definition is, not because they call another that is refused. No
+other function may be refused. No function is named by two of one edit, no definition is changed that the contract of
+another's function, or of one that it calls, comes to, and no contract of one that it calls (`faults`; a test asks it of
+every edit).
 """
 import fnmatch
+import hashlib
 import pathlib
 import re
+import shutil
+import subprocess
 import sys
+import tempfile
 from dataclasses import dataclass, field
+
+ROOT = pathlib.Path(__file__).resolve().parent.parent
+PARTS = ("src", "specs", "proofs")
 
 NAME = re.compile(r"[^\s(){}.,;«»\[\]]+")
 FUNCTION = re.compile(r"^[ \t]*(?:pub )?fn (\w+)", re.M)
-CONTRACT = re.compile(r"^ *(?:requires|ensures) \{(.*)\}$", re.M)
+CONTRACT = re.compile(r"^ *(?:requires|ensures)(?: \w+)? \{(.*)\}$", re.M)
 DEFINITION = re.compile(r"^(?:(?:abbrev|unfoldable|pub|record) )*([^\s:(){}]+)(?= :| \()", re.M)
-FOLLOWS = re.compile(r"was not admitted|cannot be checked")
+PROOF = re.compile(r"([^/ ]*)/(?:Proof|Answers|Invariants)\.antt:\d+:\d+: error: (.*)")
+FOLLOWS = re.compile(r"was not admitted|cannot be checked|which was rejected|(?:was|were) not checked")
 
 
 @dataclass
@@ -172,13 +184,11 @@ def faults(crate, answers):
                 yield from faults_of_definition(answer, at_place(defined, file, at), others, known, defined)
 
 
-def judged(answers, log):
-    """What is wrong with how a check's log shows these wrong answers, a line each."""
-    text = log.read_text(encoding="utf-8", errors="replace")
-    bare = set(re.findall(r"^fn [\w:]*?(\w+): no proof(?!.*; it calls )", text, re.M))
+def judged(answers, text):
+    """What is wrong with how a check's words show these wrong answers, a line each."""
+    bare = set(re.findall(r"^fn [\w:]*?(\w+): no proof(?!.*[:;] it calls )", text, re.M))
     refused = bare | set(re.findall(r"^fn [\w:]*?(\w+): not proved(?!.*; it calls )", text, re.M))
-    errors = re.findall(r"([^/ ]*)/Proof\.antt:\d+:\d+: error: (.*)", text)
-    own = bare | {name for name, reason in errors if not FOLLOWS.search(reason)}
+    own = bare | {name for name, reason in PROOF.findall(text) if not FOLLOWS.search(reason)}
     for answer in answers:
         missed = set(answer.refused) - (own if answer.in_code() else refused)
         if missed:
@@ -187,19 +197,100 @@ def judged(answers, log):
         yield f"{name} is refused, and none of its wrong answers names it"
 
 
-def main(root):
-    bad = []
-    for edit in sorted(root.glob("crates/*/must-fail/*.edit")):
-        name, answers = f"{edit.parent.parent.name}/{edit.stem}", together(edit)
-        log = root / "target" / "must-fail" / name / ".log"
-        if answers and not log.exists():
-            bad.append(f"{name}: it was not tried")
-        elif answers:
-            bad += [f"{name}: {line}" for line in judged(answers, log)]
-    for line in bad:
-        print(line)
+def several(root):
+    """The edits of several wrong answers, each with its name in tools/tried.txt."""
+    found = ((f"{edit.parent.parent.name}/{edit.stem}", edit) for edit in sorted(root.glob("crates/*/must-fail/*.edit")))
+    return {name: edit for name, edit in found if together(edit)}
+
+
+def sum_of(edit):
+    """The sum of an edit's text and of its crate's."""
+    crate = edit.parent.parent
+    texts = sorted(path for part in PARTS for path in (crate / part).rglob("*") if path.is_file())
+    found = hashlib.sha256(edit.read_bytes())
+    for path in texts:
+        found.update(f"\0{path.relative_to(crate)}\0".encode() + path.read_bytes())
+    return found.hexdigest()
+
+
+def noted(root):
+    """What tools/tried.txt says: by an edit's name the sum of the texts with which it was well."""
+    record = root / "tools" / "tried.txt"
+    return dict(line.split() for line in record.read_text().splitlines()) if record.exists() else {}
+
+
+def note(root, name, total):
+    """Notes an edit that was well; lines of edits that are gone go too."""
+    left = {one: known for one, known in noted(root).items() if one in several(root)} | {name: total}
+    (root / "tools").mkdir(exist_ok=True)
+    (root / "tools" / "tried.txt").write_text("".join(f"{one} {known}\n" for one, known in sorted(left.items())))
+
+
+def copied(root, to):
+    """Copies the crates without what checks keep in them: rt begins in the copy with what they left in the checkout."""
+    shutil.copytree(root / "crates", to / "crates", ignore=shutil.ignore_patterns("out"))
+    for name in ("crates.txt", "HANDLES"):
+        if (root / name).exists():
+            shutil.copyfile(root / name, to / name)
+
+
+def checked(crate, answers):
+    """What `rt check` says of a copied crate with these wrong answers, which it has no longer afterwards."""
+    were = {crate / file: (crate / file).read_text() for answer in answers for file, _, _ in answer.changes}
+    try:
+        for answer in answers:
+            for file, old, new in answer.changes:
+                (crate / file).write_text((crate / file).read_text().replace(old, new))
+        how = {"stdin": subprocess.DEVNULL, "stdout": subprocess.PIPE, "stderr": subprocess.STDOUT, "errors": "replace"}
+        return subprocess.run(["rt", "check"], cwd=crate, **how).stdout
+    finally:
+        for path, text in were.items():
+            path.write_text(text)
+        # The next one begins with what was kept of the crate as it stands.
+        shutil.rmtree(crate / "out", ignore_errors=True)
+
+
+def untried(root):
+    """The edits that have not been tried as they stand, or were not well, by their names with their sums."""
+    known, sums = noted(root), {name: sum_of(edit) for name, edit in several(root).items()}
+    return {name: total for name, total in sums.items() if known.get(name) != total}
+
+
+def try_those(root, crates, check=checked):
+    """Tries the edits of these crates, of all for none, that have not been tried; what is wrong, a line each."""
+    edits = several(root)
+    left = {name: total for name, total in untried(root).items() if not crates or name.split("/")[0] in crates}
+    with tempfile.TemporaryDirectory(prefix="currantnest-tries.") as room:
+        copy = pathlib.Path(room)
+        copied(root, copy)
+        for number, (name, total) in enumerate(left.items(), 1):
+            print(f"[{number}/{len(left)}] {name}", file=sys.stderr, flush=True)
+            answers = together(edits[name])
+            text = check(copy / "crates" / name.split("/")[0], answers)
+            if not re.search(r"^fn [\w:]+: (no proof|not proved)", text, re.M):
+                yield f"{name}: no function is refused, or the check did not end: {text[-600:]}"
+                continue
+            bad = [f"{name}: {line}" for line in judged(answers, text)]
+            yield from bad
+            if not bad and sum_of(edits[name]) == total:
+                note(root, name, total)
+
+
+def main(root, words=(), check=checked):
+    if words[:1] not in ((), ("try",)) or words[1:] and not all((root / "crates" / name).is_dir() for name in words[1:]):
+        print(__doc__.strip(), file=sys.stderr)
+        return 2
+    bad = False
+    if words:
+        for line in try_those(root, words[1:], check):
+            print(line, flush=True)
+            bad = True
+        return 1 if bad else 0
+    for name in untried(root):
+        print(f"{name}: it was not tried as it stands; tools/wrong_answers.py try {name.split('/')[0]} does that")
+        bad = True
     return 1 if bad else 0
 
 
 if __name__ == "__main__":
-    sys.exit(main(pathlib.Path(sys.argv[1] if len(sys.argv) > 1 else ".")))
+    sys.exit(main(ROOT, tuple(sys.argv[1:])))

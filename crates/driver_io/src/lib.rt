@@ -90,6 +90,7 @@ fn refill<R: Read>(input: &mut [u8], h: Held, wants: usize, from: &mut R) -> io:
 }
 
 // The run by the tables of a project, from its state at the start. Tables are handed over once a chunk.
+#[inline(never)]
 fn run<R: Read, W: Write>(
     t: Tables,
     multipliers: &[f64; 5376],
@@ -178,7 +179,8 @@ fn read_words<R: Read>(
     Ok(n)
 }
 
-// What the image says. Its words are needed no longer than here.
+// What the image says. Its words are needed no longer than here: inlined, they would take stack from the whole run.
+#[inline(never)]
 fn open_image<R: Read>(
     from: &mut R,
     buf: &mut [u8],
@@ -195,7 +197,8 @@ fn open_image<R: Read>(
     Ok(image::decode_into(&words[..n], lengths, multipliers))
 }
 
-// The tables of what the image says, laid out once.
+// The tables of what the image says, laid out once. Inlined, the copies that it is laid out from would take stack from the whole run.
+#[inline(never)]
 fn tables_of(parts: Parts, lengths: [usize; 32]) -> Tables
     requires { PartsInside parts.counts parts.links parts.controls }
     ensures { LaidFrom parts.options parts.counts lengths parts.nodes parts.links parts.controls result }
@@ -209,6 +212,7 @@ fn tables_of(parts: Parts, lengths: [usize; 32]) -> Tables
 }
 
 // Its state at the start.
+#[inline(never)]
 fn start_of(parts: Parts) -> State
     requires nodes_bound { parts.counts.nodes ≤ 256 }
     requires links_bound { parts.counts.links ≤ 384 }
