@@ -5,13 +5,13 @@
 // `compare/handed_in.py` makes the input and what has to come out.
 mod ask;
 mod change;
-mod control;
+mod controls;
 mod groups;
 mod link;
 mod node;
-mod premise;
+mod premises;
 mod project;
-mod state;
+mod states;
 
 use ask::print_numbers;
 use change::Change;
@@ -19,7 +19,7 @@ use groups::{TankLinks, changed_table, laid_out, print_table};
 use model::*;
 use project::changed_project;
 use replay_input::read_full;
-use state::changed_state;
+use states::changed_state;
 use std::io;
 use std::io::Read;
 

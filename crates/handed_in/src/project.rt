@@ -1,9 +1,9 @@
 // One word of the tables changed.
 use crate::change::Change;
-use crate::control::changed_control;
+use crate::controls::changed_control;
 use crate::link::changed_link;
 use crate::node::changed_node;
-use crate::premise::changed_premise;
+use crate::premises::changed_premise;
 use model::{Counts, Options, Project};
 
 fn changed_options(o: Options, c: Change) -> Options {
