@@ -1,7 +1,7 @@
 #![tactic(auto)]
 // The words of an image and of a call, read from a reader. No contract can say what comes in; what is answered is held to the bytes that were read.
-// A read that fails is the error of the function that made it.
-ghost use Rattle.std.specs.Prelude.{◌+◌, ◌≤◌, ◌≡◌, true, length, IfOk};
+// A read that fails is the error of the function that made it, and the only one; what it leaves in a buffer of bytes is open.
+ghost use Rattle.std.specs.Prelude.{◌+◌, ◌≤◌, ◌≡◌, true, length, IfOk, OnErr};
 ghost use Rattle.replay_input.specs.Input.{Front, Taken};
 
 use std::io;
@@ -42,7 +42,8 @@ pub fn read_bytes<R: Read>(from: &mut R, bytes: &mut [u8], at: usize, n: usize) 
 
 // Reads a count of words and the words to the start of a table, and answers how many; 0 where the count is 0, over 16,384 or cut.
 pub fn read_image<R: Read>(from: &mut R, bytes: &mut [u8], table: &mut [u32]) -> io::Result<usize>
-    ensures { IfOk result (λ n. Taken n bytes.new table.old table.new) }
+    ensures ok { IfOk result (λ n. Taken n bytes.new table.old table.new) }
+    ensures err { OnErr result (table.new ≡ table.old) }
 {
     if !read_bytes(from, bytes, 0, 4)? {
         return Ok(0);
@@ -130,7 +131,8 @@ fn read_operands<R: Read>(from: &mut R, bytes: &mut [u8]) -> io::Result<usize> {
 
 // Reads a call's words to the start of a table, and answers how many; 0 where it is cut.
 pub fn read_call<R: Read>(from: &mut R, bytes: &mut [u8], table: &mut [u32]) -> io::Result<usize>
-    ensures { IfOk result (λ n. Taken n bytes.new table.old table.new) }
+    ensures ok { IfOk result (λ n. Taken n bytes.new table.old table.new) }
+    ensures err { OnErr result (table.new ≡ table.old) }
 {
     if !read_bytes(from, bytes, 0, 4)? {
         return Ok(0);

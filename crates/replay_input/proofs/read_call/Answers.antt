@@ -2,5 +2,5 @@
 use Rattle.replay_input.proofs.Taking.{taken_none}
 use Rattle.replay_input.proofs.read_call.Goals as goal
 
-pub returns-then-not-branch : goal.returns-then-not-branch
-returns-then-not-branch g c = taken_none _ _
+pub returns-then-not-branch-clause-ok : goal.returns-then-not-branch-clause-ok
+returns-then-not-branch-clause-ok g c = taken_none _ _
