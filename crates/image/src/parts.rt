@@ -17,7 +17,8 @@ pub struct Parts {
     pub premises: [Premise; 128],
 }
 
-// A number, and tables with nothing in them.
+// A number, and tables with nothing in them. Inlined, it would take stack once for each fault that is answered.
+#[inline(never)]
 pub fn emptied(number: u32, lengths: &mut [usize; 32], multipliers: &mut [f64; 5376]) -> Parts
     ensures value { result ≡ parts_of (refused number) }
     ensures lengths_after { lengths.new ≡ (refused number).project.lengths }
