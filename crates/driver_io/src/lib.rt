@@ -179,22 +179,38 @@ fn read_words<R: Read>(
     Ok(n)
 }
 
-// What the image says. Its words are needed no longer than here: inlined, they would take stack from the whole run.
+// Reads the words of an image, and answers how many there are.
+fn read_image<R: Read>(from: &mut R, buf: &mut [u8], words: &mut [u32; 16384]) -> io::Result<usize>
+    requires { 4 ≤ length buf.old }
+    ensures { IfOk result (λ n. n ≤ 16384) }
+{
+    let head = read_full(from, &mut buf[..4])?;
+    let count = driver_image::image_words(&buf[..head]);
+    read_words(from, buf, words, count)
+}
+
+// What the image says. Its words are needed no longer than here: inlined, they would take stack from the whole run. An error of a read is handed out
+// beside, since an answer that may be an error is a copy of all that the image says, on the stack too.
 #[inline(never)]
 fn open_image<R: Read>(
     from: &mut R,
     buf: &mut [u8],
     lengths: &mut [usize; 32],
     multipliers: &mut [f64; 5376],
-) -> io::Result<Parts>
+    failed: &mut io::Result<()>,
+) -> Parts
     requires { 4 ≤ length buf.old }
-    ensures { IfOk result (λ parts. parts.fault ≡ 0 → Accepted parts lengths.new multipliers.new) }
+    ensures { result.fault ≡ 0 → Accepted result lengths.new multipliers.new }
 {
     let mut words = no_words();
-    let head = read_full(from, &mut buf[..4])?;
-    let count = driver_image::image_words(&buf[..head]);
-    let n = read_words(from, buf, &mut words, count)?;
-    Ok(image::decode_into(&words[..n], lengths, multipliers))
+    let n = match read_image(from, buf, &mut words) {
+        Ok(n) => n,
+        Err(e) => {
+            *failed = Err(e);
+            0
+        }
+    };
+    image::decode_into(&words[..n], lengths, multipliers)
 }
 
 // The tables of what the image says, laid out once. Inlined, the copies that it is laid out from would take stack from the whole run.
@@ -224,7 +240,28 @@ fn start_of(parts: Parts) -> State
     start_from(nodes, counts.nodes, links, counts.links)
 }
 
-// The image, the header, and the run from the start.
+// The header of an image that was accepted, and the run from the start. Inlined, its tables would take stack while the image is read.
+#[inline(never)]
+fn play<R: Read, W: Write>(
+    parts: Parts,
+    lengths: [usize; 32],
+    multipliers: &[f64; 5376],
+    input: &mut [u8],
+    out: &mut [u8],
+    from: &mut R,
+    to: &mut W,
+) -> io::Result<()>
+    requires accepted { Accepted parts lengths multipliers.now }
+    requires in_bounds { 22 ≤ length out.old }
+{
+    let h = listing::put_header(out, 0);
+    write(to, &out[..h])?;
+    let t = tables_of(parts, lengths);
+    let start = start_of(parts);
+    run(t, multipliers, start, input, out, from, to)
+}
+
+// The image, and its run or the number of its fault.
 fn drive_slices<R: Read, W: Write>(
     input: &mut [u8],
     out: &mut [u8],
@@ -236,16 +273,14 @@ fn drive_slices<R: Read, W: Write>(
 {
     let mut lengths = no_lengths();
     let mut multipliers = no_multipliers();
-    let parts = open_image(from, input, &mut lengths, &mut multipliers)?;
+    let mut failed = Ok(());
+    let parts = open_image(from, input, &mut lengths, &mut multipliers, &mut failed);
+    failed?;
     let fault = parts.fault;
     if fault != 0 {
         return refuse(fault, out, to);
     }
-    let h = listing::put_header(out, 0);
-    write(to, &out[..h])?;
-    let t = tables_of(parts, lengths);
-    let start = start_of(parts);
-    run(t, &multipliers, start, input, out, from, to)
+    play(parts, lengths, &multipliers, input, out, from, to)
 }
 
 // Room for loads, of which none has more than 5,124 bytes: the more of them come in one chunk, the less is handed over for each.
