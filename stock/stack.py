@@ -14,7 +14,7 @@ import subprocess
 import sys
 
 STOCK = pathlib.Path(__file__).resolve().parent
-LIMIT = 576  # KiB, as docs/MEASUREMENTS.md and docs/PROMISES.md have it
+LIMIT = 592  # KiB, as docs/MEASUREMENTS.md and docs/PROMISES.md have it
 STEP = 4
 
 
