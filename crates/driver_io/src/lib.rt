@@ -1,8 +1,7 @@
 #![tactic(auto)]
 // The driver between a reader and a writer: it reads an image and loads, and writes the listing. This crate only moves bytes; what they are is put
-// together by `driver_image` and `driver_chunk`. No contract can say what is read or written: the law `image-accepted` of `driver_printed` says that the
-// chunks' texts, written one after the other, are what document 01 asks for. A read or
-// write that fails ends the listing with its error.
+// together by `driver_image` and `driver_chunk`. No contract can say what is read or written: the law `image_accepted` of `driver_printed` says that the
+// chunks' texts, written one after the other, are what document 01 asks for. A read or write that fails ends the listing with its error.
 ghost use Rattle.std.specs.Prelude.{◌+◌, ◌-◌, ◌≤◌, min, ◌≡◌, ◌++◌, length, take, drop, IfOk};
 ghost use Rattle.state.specs.Starting.{start_from};
 ghost use Rattle.driver_tables.specs.Laid.{PartsInside, LaidFrom};

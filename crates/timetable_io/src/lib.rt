@@ -1,7 +1,7 @@
 #![tactic(auto)]
 // The program `timetable` between a reader and a writer: it reads an image and writes its timetable. What stands behind the image, the loads, is not read.
 // This crate only moves bytes; what they are is put together by `replay_input`, `image` and `timetable_chunk`. No contract can say what is read or
-// written: the law `printed-is` of `timetable_chunk` says that the chunks' texts, written one after the other, are the timetable.
+// written: the law `printed_is` of `timetable_chunk` says that the chunks' texts, written one after the other, are the timetable.
 // A read or write that fails ends it with its error.
 ghost use Rattle.std.specs.Prelude.{◌≤◌, length};
 
