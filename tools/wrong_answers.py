@@ -186,7 +186,7 @@ def faults(crate, answers):
 
 def judged(answers, text):
     """What is wrong with how a check's words show these wrong answers, a line each."""
-    bare = set(re.findall(r"^fn [\w:]*?(\w+): no proof(?!.*[:;] it calls )", text, re.M))
+    bare = set(re.findall(r"^fn [\w:]*?(\w+): no proof(?!(?:(?!did not prove).)*[:;] it calls )", text, re.M))
     refused = bare | set(re.findall(r"^fn [\w:]*?(\w+): not proved(?!.*; it calls )", text, re.M))
     own = bare | {name for name, reason in PROOF.findall(text) if not FOLLOWS.search(reason)}
     for answer in answers:

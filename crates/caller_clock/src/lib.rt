@@ -10,7 +10,7 @@ use clock::Clock;
 pub fn advance(c: &mut Clock, length: u32)
     ensures { c.new ≡ advanced c.old length }
 {
-    *c = (*c).advanced(length);
+    *c = c.advanced(length);
 }
 
 // A caller: a record of its own is lent, and read back.

@@ -1,4 +1,3 @@
 -- Laws that belong to no one function.
 pub mod Guard
-pub mod Premises
 pub mod Table

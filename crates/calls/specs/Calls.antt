@@ -1,6 +1,6 @@
 -- The public calls. "every later call, first: 10"; "a refused call yields the number and the same state, and lent words are only read. A refused
 -- premise yields no truth."
-use Rattle.std.specs.Prelude.{ℕ, Bool, true, false, cond, List, [], ◌∷◌, eqb, ltb}
+use Rattle.std.specs.Prelude.{ℕ, Bool, true, false, cond, List, [], ◌∷◌, eqb, ltb, Result, Ok, Err}
 use Rattle.std.proofs.lemmas.List.Edits.{sets}
 use Rattle.model.specs.Blank.{blank_state}
 use Rattle.model.specs.declared.project.Project.{Project}
@@ -19,8 +19,9 @@ use Rattle.simulation.specs.Steps.{next_hydraulic_timestep}
 use Rattle.calls.specs.declared.Called.{Called}
 use Rattle.calls.specs.declared.PressureCalled.{PressureCalled}
 use Rattle.calls.specs.declared.StepCalled.{StepCalled}
-use Rattle.calls.specs.declared.PremiseAnswer.{PremiseAnswer}
-use Rattle.calls.specs.declared.PremiseAnswer.TheVariants.{Truth, Refused}
+use Rattle.calls.specs.declared.refusal.Refusal.{Refusal}
+use Rattle.calls.specs.declared.refusal.Refusal.TheVariants.{NotInOrder, NoPremise}
+use Rattle.calls.specs.Refusals.{answer_number}
 
 -- a call's answer: the number and the state
 abbrev pub gives : ℕ → State → Called
@@ -66,18 +67,17 @@ pressure p s =
     cond (in_order p s) (record { number = 0; state = done.state; changed = done.changed }) (record { number = 10; state = s; changed = false })
 
 -- 9: "no such premise"
-unfoldable pub premise : Project → ℕ → State → PremiseAnswer
-premise p i s = cond (in_order p s) (cond (ltb i p.counts.premises) (Truth (premise_truth_at p s i)) (Refused 9)) (Refused 10)
+unfoldable pub premise : Project → ℕ → State → Result Bool Refusal
+premise p i s = cond (in_order p s) (cond (ltb i p.counts.premises) (Ok (premise_truth_at p s i)) (Err NoPremise)) (Err NotInOrder)
 
 -- "Where an answer is an enum, a definition gives this paper's number and values for each case of the enum": the number, 0 where the premise is answered,
 -- and its truth, where it has one
-abbrev pub premise_number : PremiseAnswer → ℕ
-premise_number (Truth b) = 0
-premise_number (Refused n) = n
+abbrev pub premise_number : Result Bool Refusal → ℕ
+premise_number r = answer_number r
 
-abbrev pub premise_truths : PremiseAnswer → List Bool
-premise_truths (Truth b) = b ∷ []
-premise_truths (Refused n) = []
+abbrev pub premise_truths : Result Bool Refusal → List Bool
+premise_truths (Ok b) = b ∷ []
+premise_truths (Err r) = []
 
 -- what they are: 10 first, then 9; "A refused premise yields no truth."
 unfoldable pub number_of_premise : Project → ℕ → State → ℕ

@@ -1,4 +1,5 @@
 -- The start of tables that fit is in order, and every call keeps a state so. Assumes nothing.
+use Rattle.std.specs.Prelude.{None, Option, Some}
 use mathlib.Core.Path.{◌≡◌, refl, sym, ap, ◌∙◌, subst}
 use mathlib.Core.Bool.{Bool, true, false, ◌||◌, cond}
 use mathlib.Core.List.{List}
@@ -17,10 +18,6 @@ use Rattle.model.specs.Blank.{blank_state, blank_node_state, blank_link_state, n
 use Rattle.model.specs.Nodes.{is_tank, is_junction}
 use Rattle.model.specs.Patterns.{period}
 use Rattle.model.specs.declared.control.Control.{Control}
-use Rattle.model.specs.declared.control.SettingAction.{SettingAction}
-use Rattle.model.specs.declared.control.SettingAction.TheVariants.{KeepSetting, SetSetting}
-use Rattle.model.specs.declared.control.StatusAction.{StatusAction}
-use Rattle.model.specs.declared.control.StatusAction.TheVariants.{KeepStatus, SetStatus}
 use Rattle.model.specs.declared.link.Link.{Link}
 use Rattle.model.specs.declared.node.Node.{Node}
 use Rattle.model.specs.declared.node.NodeType.{NodeType}
@@ -79,14 +76,14 @@ link_cond true v w = v
 link_cond false v w = w
 
 -- ---- single entries
-set_fit : {nodes : ℕ} {l : Link} {x : LinkState} (g : SettingAction) → SettingActionFit g → LinkFit nodes l → LinkStateFit x → LinkStateFit (activate_setting g l x).state
-set_fit KeepSetting k o s = s
-set_fit (SetSetting v) k o s = record { flow = initial_flow_within o; status = s.status; setting = k }
+set_fit : {nodes : ℕ} {l : Link} {x : LinkState} (g : Option Float) → SettingActionFit g → LinkFit nodes l → LinkStateFit x → LinkStateFit (activate_setting g l x).state
+set_fit None k o s = s
+set_fit (Some v) k o s = record { flow = initial_flow_within o; status = s.status; setting = k }
 
-activated_fit : {nodes : ℕ} {l : Link} {x : LinkState} (a : StatusAction) (g : SettingAction) → StatusActionFit a → SettingActionFit g → LinkFit nodes l → LinkStateFit x
+activated_fit : {nodes : ℕ} {l : Link} {x : LinkState} (a : Option ℕ) (g : Option Float) → StatusActionFit a → SettingActionFit g → LinkFit nodes l → LinkStateFit x
     → LinkStateFit (activate_status a g l x).state
-activated_fit KeepStatus g k m o s = set_fit g m o s
-activated_fit (SetStatus v) g k m o s = record { flow = initial_flow_within o; status = k; setting = s.setting }
+activated_fit None g k m o s = set_fit g m o s
+activated_fit (Some v) g k m o s = record { flow = initial_flow_within o; status = k; setting = s.setting }
 
 control_fit : {nodes links : ℕ} {l : Link} {x : LinkState} (c : Control) → ControlFit nodes links c → LinkFit nodes l → LinkStateFit x → LinkStateFit (activate c l x).state
 control_fit c k o s = activated_fit c.status c.setting k.status k.setting o s

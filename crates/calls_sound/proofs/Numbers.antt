@@ -1,4 +1,5 @@
 -- The sizes of what the calls work out from tables that fit. Assumes nothing.
+use Rattle.std.specs.Prelude.{None, Option, Some}
 use mathlib.Core.Path.{◌≡◌, refl, sym, ap, ◌∙◌, subst}
 use mathlib.Core.Bool.{Bool, true, false, ◌||◌, cond}
 use mathlib.Core.List.{List}
@@ -25,8 +26,6 @@ use Rattle.model.specs.declared.node.Demands.{Demands}
 use Rattle.model.specs.declared.node.Demands.TheVariants.{NoDemand, One, Two, Three, Four}
 use Rattle.model.specs.declared.node.NodeType.{NodeType}
 use Rattle.model.specs.declared.node.NodeType.TheVariants.{Reservoir, Tank, Junction}
-use Rattle.model.specs.declared.pattern.PatternIndex.{PatternIndex}
-use Rattle.model.specs.declared.pattern.PatternIndex.TheVariants.{NoPattern, PatternAt}
 use Rattle.model.specs.declared.project.Project.{Project}
 use Rattle.tables.specs.Fit.{PatternIndexFit, DemandFit, DemandsFit, NodeFit, LinkTypeFit, LinkFit, TablesFit}
 use Rattle.state.specs.Patterns.{multiplier_of}
@@ -92,10 +91,10 @@ multiplier_at_within xs a n t each = go (eqb (length (take n (drop a xs))) 0) re
         let m : length ms ≤ n = rw (length-take n (drop a xs)) (omega arith) in
         subst (λ (x : Float). Within x (10 ^ 6)) (sym (get_or-take n (drop a xs) i nan (omega arith) ∙ get_or-drop a xs i nan)) (each i (omega arith))
 
-pub multiplier_within : {p : Project} → TablesFit p → (t : ℕ) (q : PatternIndex) → PatternIndexFit p.counts.patterns q → Within (multiplier_of p t q) (10 ^ 6)
+pub multiplier_within : {p : Project} → TablesFit p → (t : ℕ) (q : Option ℕ) → PatternIndexFit p.counts.patterns q → Within (multiplier_of p t q) (10 ^ 6)
 unfolding multiplier_of pattern_at
-multiplier_within fit t NoPattern o = one_within
-multiplier_within {p} fit t (PatternAt k) o =
+multiplier_within fit t None o = one_within
+multiplier_within {p} fit t (Some k) o =
     within_cond (ltb k 32) (multiplier_at_within p.multipliers (k * 168) (get_or p.lengths k 0) t (fit.pattern k o).each) one_within
 
 -- up to 4 times 10 ^ 18 is a value of the format
@@ -105,12 +104,12 @@ exact_18 k h =
     let same : k * 5 ^ 18 * 2 ^ 18 ≡ k * 10 ^ 18 = omega arith in
     subst (λ (n : ℕ). Exact n 1) same (exact_scaled (k * 5 ^ 18) 18 few (lit≤ tt))
 
-or_default_fit : (patterns : ℕ) (default q : PatternIndex) → PatternIndexFit patterns default → PatternIndexFit patterns q → PatternIndexFit patterns (or_default default q)
-or_default_fit patterns default NoPattern d o = d
-or_default_fit patterns default (PatternAt k) d o = o
+or_default_fit : (patterns : ℕ) (default q : Option ℕ) → PatternIndexFit patterns default → PatternIndexFit patterns q → PatternIndexFit patterns (or_default default q)
+or_default_fit patterns default None d o = d
+or_default_fit patterns default (Some k) d o = o
 
-module _ {patterns : ℕ} {m : PatternIndex → Float} {scale : Float} (default : PatternIndex) (fit : PatternIndexFit patterns default)
-    (known : (q : PatternIndex) → PatternIndexFit patterns q → Within (m q) (10 ^ 6)) (scaled : Within scale (10 ^ 6)) where
+module _ {patterns : ℕ} {m : Option ℕ → Float} {scale : Float} (default : Option ℕ) (fit : PatternIndexFit patterns default)
+    (known : (q : Option ℕ) → PatternIndexFit patterns q → Within (m q) (10 ^ 6)) (scaled : Within scale (10 ^ 6)) where
   demand_within : (d : Demand) → DemandFit patterns d → Within (demand_of m default scale d) (10 ^ 18)
   unfolding demand_of
   demand_within d o =
@@ -137,9 +136,9 @@ module _ {patterns : ℕ} {m : PatternIndex → Float} {scale : Float} (default 
   pattern_demand_within (Tank t) o = zero_within (10 ^ 20)
   pattern_demand_within (Junction j) o = within_cond j.disabled (zero_within (10 ^ 20)) (sum_within j.demands o.1)
 
-  reservoir_head_within : (q : PatternIndex) {elevation head : Float} → PatternIndexFit patterns q → Within elevation 100000 → Within head (10 ^ 12) → Within (reservoir_head m q elevation head) (10 ^ 12)
-  reservoir_head_within NoPattern o e h = h
-  reservoir_head_within (PatternAt k) o e h = within_mul exact_12 (lit≤ tt) e (known (PatternAt k) o)
+  reservoir_head_within : (q : Option ℕ) {elevation head : Float} → PatternIndexFit patterns q → Within elevation 100000 → Within head (10 ^ 12) → Within (reservoir_head m q elevation head) (10 ^ 12)
+  reservoir_head_within None o e h = h
+  reservoir_head_within (Some k) o e h = within_mul exact_12 (lit≤ tt) e (known (Some k) o)
 
   pub pattern_head_within : (k : NodeType) {head : Float} → NodeFit patterns k → Within head (10 ^ 12) → Within (pattern_head m k head) (10 ^ 12)
   pattern_head_within (Reservoir r) o h = reservoir_head_within r.head_pattern o.1 o.0 h

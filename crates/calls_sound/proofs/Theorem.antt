@@ -25,7 +25,8 @@ use Rattle.solver.specs.Closing.{update_tank_links}
 use Rattle.calls.specs.Calls.{gives, start, judged, patterns, controls, load, tank_links, tank_links_by, pressure, premise, premise_number}
 use Rattle.premise.specs.Premise.{premise_truth_at}
 use Rattle.calls.specs.declared.Called.{Called}
-use Rattle.calls.specs.declared.PremiseAnswer.TheVariants.{Truth, Refused}
+use Rattle.std.specs.Prelude.{Ok, Err}
+use Rattle.calls.specs.declared.refusal.Refusal.TheVariants.{NoPremise}
 use Rattle.calls_sound.proofs.Kept.{patterns_kept, controls_kept, pressure_kept, tanks_kept, tank_links_kept, load_kept}
 use Rattle.calls_sound.proofs.Start.{start_fits}
 
@@ -135,7 +136,7 @@ module _ (p : Project) (s : State) (e : in_order p s ≡ true) where
   unfolding premise
   premise_number_lem i = rw e (go (ltb i p.counts.premises))
     where
-      go : (b : Bool) → premise_number (cond b (Truth (premise_truth_at p s i)) (Refused 9)) ≡ cond b 0 9
+      go : (b : Bool) → premise_number (cond b (Ok (premise_truth_at p s i)) (Err NoPremise)) ≡ cond b 0 9
       go true = refl
       go false = refl
 

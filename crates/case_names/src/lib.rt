@@ -7,10 +7,11 @@ use std::rt::Files;
 use std::{fs, str};
 
 // A number past 999 goes by its last three digits.
+#[tactic(auto, unfolding(crate::specs::Names::case_name))]
 pub fn case_name(i: u32) -> [u8; 7]
     ensures { result ≡ case_name i }
 {
-    let mut name = [b'c', b'a', b's', b'e', 48, 48, 48];
+    let mut name = *b"case000";
     name[4] = (48 + i / 100 % 10) as u8;
     name[5] = (48 + i / 10 % 10) as u8;
     name[6] = (48 + i % 10) as u8;

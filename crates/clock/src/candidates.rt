@@ -11,32 +11,27 @@ pub const DAY: u64 = 86400;
 pub fn clock_time(start_clock: u32, time: u32) -> u64
     ensures { result ≡ clock_time start_clock time }
 {
-    ((time as u64) + (start_clock as u64)) % DAY
+    (u64::from(time) + u64::from(start_clock)) % DAY
 }
 
 // A time control's candidate.
+#[tactic(auto, unfolding(crate::specs::Steps::time_candidate))]
 pub fn time_candidate(seconds: u32, time: u32) -> u64
     ensures { result ≡ time_candidate seconds time }
 {
-    if seconds < time {
-        return MAX;
-    }
-    (seconds - time) as u64
+    seconds.checked_sub(time).map_or(MAX, u64::from)
 }
 
 // A clock control's candidate.
+#[tactic(auto, unfolding(crate::specs::Steps::clock_candidate))]
 pub fn clock_candidate(seconds: u32, clock: u64) -> u64
     ensures { result ≡ clock_candidate seconds clock }
 {
-    let due = seconds as u64;
+    let due = u64::from(seconds);
     if clock <= due {
         return due - clock;
     }
-    let tomorrow = due + DAY;
-    if tomorrow < clock {
-        return 0;
-    }
-    tomorrow - clock
+    (due + DAY).saturating_sub(clock)
 }
 
 // The smaller of a candidate and the smallest so far; a candidate of 0 drops out.
@@ -46,10 +41,7 @@ pub fn smaller_positive(candidate: u64, smallest: u64) -> u64
     if candidate == 0 {
         return smallest;
     }
-    if candidate < smallest {
-        return candidate;
-    }
-    smallest
+    candidate.min(smallest)
 }
 
 // The seconds to the next multiple of a timestep; 0 where there is no timestep.
@@ -59,5 +51,5 @@ pub fn time_to_next(timestep: u32, time: u32) -> u64
     if timestep == 0 {
         return 0;
     }
-    (timestep - time % timestep) as u64
+    u64::from(timestep - time % timestep)
 }

@@ -10,23 +10,16 @@ pub struct Clock {
 
 impl Clock {
     // The clock after a step of a length in seconds.
+    #[tactic(auto, unfolding(crate::specs::Steps::advanced))]
     pub fn advanced(self, length: u32) -> Clock
         ensures { result ≡ advanced self length }
     {
-        let instant = self.instant;
-        let count = self.count;
         if length == 0 {
             return self;
         }
-        if 4294967295 - length < instant {
-            return self;
-        }
-        if count == 4294967295 {
-            return self;
-        }
-        Clock {
-            instant: instant + length,
-            count: count + 1,
+        match (self.instant.checked_add(length), self.count.checked_add(1)) {
+            (Some(instant), Some(count)) => Clock { instant, count },
+            _ => self,
         }
     }
 }

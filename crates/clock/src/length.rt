@@ -19,33 +19,30 @@ pub struct Times {
 
 impl Times {
     // From the tanks' candidate, the smallest of all of them, and the controls', the smallest that is not 0.
+    #[tactic(auto, unfolding(crate::specs::Steps::calculate_time_step, crate::specs::Steps::smallest_positive))]
     fn calculate_time_step(self, tanks: u64, controls: u64, time: u32) -> u64
         ensures { result ≡ calculate_time_step self tanks controls time }
     {
-        let report = self.report;
         if self.fast {
-            return report as u64;
+            return u64::from(self.report);
         }
-        let hydraulic = smaller_positive(self.hydraulic as u64, MAX);
+        let hydraulic = smaller_positive(u64::from(self.hydraulic), MAX);
         let with_controls = smaller_positive(controls, hydraulic);
         let with_tanks = smaller_positive(tanks, with_controls);
         let with_pattern = smaller_positive(time_to_next(self.pattern, time), with_tanks);
-        smaller_positive(time_to_next(report, time), with_pattern)
+        smaller_positive(time_to_next(self.report, time), with_pattern)
     }
 
     // The length that `next_hydraulic_timestep` answers.
+    #[tactic(auto, unfolding(crate::specs::Steps::step_length))]
     pub fn step_length(self, tanks: u64, controls: u64, time: u32) -> u32
         ensures { result ≡ step_length self tanks controls time }
     {
-        let duration = self.duration;
-        if duration <= time {
+        if self.duration <= time {
             return 0;
         }
-        let remaining = duration - time;
-        let length = self.calculate_time_step(tanks, controls, time);
-        if length < (remaining as u64) {
-            return length as u32;
-        }
-        remaining
+        let remaining = u64::from(self.duration - time);
+        self.calculate_time_step(tanks, controls, time)
+            .min(remaining) as u32
     }
 }

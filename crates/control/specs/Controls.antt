@@ -1,4 +1,5 @@
 -- Document 01, module 5: `control.rs`, for one control with the node that it watches and the link that it sets.
+use Rattle.std.specs.Prelude.{None, Option, Some}
 use Rattle.std.specs.Prelude.{ℕ, Bool, true, false, not, ◌&&◌, eqb, Float}
 use Rattle.std.specs.Float.Ieee.{le, ne, neg}
 use Rattle.number.specs.Constants.{h_tol, l_tol, MAX}
@@ -10,10 +11,6 @@ use Rattle.model.specs.Nodes.{elevation, is_tank}
 use Rattle.model.specs.declared.control.Control.{Control}
 use Rattle.model.specs.declared.control.ControlCondition.{ControlCondition}
 use Rattle.model.specs.declared.control.ControlCondition.TheVariants.{HighPressure, LowPressure, HighLevel, LowLevel, Time, ClockTime}
-use Rattle.model.specs.declared.control.SettingAction.{SettingAction}
-use Rattle.model.specs.declared.control.SettingAction.TheVariants.{KeepSetting, SetSetting}
-use Rattle.model.specs.declared.control.StatusAction.{StatusAction}
-use Rattle.model.specs.declared.control.StatusAction.TheVariants.{KeepStatus, SetStatus}
 use Rattle.model.specs.declared.link.Link.{Link}
 use Rattle.model.specs.declared.node.Node.{Node}
 use Rattle.model.specs.declared.node.NodeType.{NodeType}
@@ -46,15 +43,15 @@ is_active (ClockTime t) n s time clock = eqb t clock
 
 -- "`activate`: a status wins over a setting; with either, the flow becomes the initial flow even if nothing changed."
 -- A setting changes where the Rust's `!=` says so: 0.0 and -0.0 are equal.
-abbrev pub activate_setting : SettingAction → Link → LinkState → Activated
-activate_setting (SetSetting x) l s =
+abbrev pub activate_setting : Option Float → Link → LinkState → Activated
+activate_setting (Some x) l s =
     record { state = record { flow = initial_flow l; status = s.status; setting = x }; changed = ne s.setting x }
-activate_setting KeepSetting l s = record { state = s; changed = false }
+activate_setting None l s = record { state = s; changed = false }
 
-abbrev pub activate_status : StatusAction → SettingAction → Link → LinkState → Activated
-activate_status (SetStatus x) setting l s =
+abbrev pub activate_status : Option ℕ → Option Float → Link → LinkState → Activated
+activate_status (Some x) setting l s =
     record { state = record { flow = initial_flow l; status = x; setting = s.setting }; changed = not (eqb s.status x) }
-activate_status KeepStatus setting l s = activate_setting setting l s
+activate_status None setting l s = activate_setting setting l s
 
 abbrev pub activate : Control → Link → LinkState → Activated
 activate c l s = activate_status c.status c.setting l s

@@ -21,26 +21,25 @@ pub fn watched(condition: ControlCondition) -> usize
     ensures { result ≡ watched condition }
 {
     match condition {
-        ControlCondition::HighPressure { node, target: _ } => node,
-        ControlCondition::LowPressure { node, target: _ } => node,
-        ControlCondition::HighLevel { tank, target: _ } => tank,
-        ControlCondition::LowLevel { tank, target: _ } => tank,
-        ControlCondition::Time { seconds: _ } => 0,
-        ControlCondition::ClockTime { seconds: _ } => 0,
+        ControlCondition::HighPressure { node, .. }
+        | ControlCondition::LowPressure { node, .. }
+        | ControlCondition::HighLevel { tank: node, .. }
+        | ControlCondition::LowLevel { tank: node, .. } => node,
+        ControlCondition::Time { .. } | ControlCondition::ClockTime { .. } => 0,
     }
 }
 
 // The target that a condition names; 0 where it names none.
+#[tactic(auto, unfolding(number::specs::Constants::decimal))]
 pub fn condition_target(condition: ControlCondition) -> f64
     ensures { result ≡ condition_target condition }
 {
     match condition {
-        ControlCondition::HighPressure { node: _, target } => target,
-        ControlCondition::LowPressure { node: _, target } => target,
-        ControlCondition::HighLevel { tank: _, target } => target,
-        ControlCondition::LowLevel { tank: _, target } => target,
-        ControlCondition::Time { seconds: _ } => 0.0,
-        ControlCondition::ClockTime { seconds: _ } => 0.0,
+        ControlCondition::HighPressure { target, .. }
+        | ControlCondition::LowPressure { target, .. }
+        | ControlCondition::HighLevel { target, .. }
+        | ControlCondition::LowLevel { target, .. } => target,
+        ControlCondition::Time { .. } | ControlCondition::ClockTime { .. } => 0.0,
     }
 }
 
@@ -49,12 +48,8 @@ pub fn condition_seconds(condition: ControlCondition) -> u32
     ensures { result ≡ condition_seconds condition }
 {
     match condition {
-        ControlCondition::HighPressure { node: _, target: _ } => 0,
-        ControlCondition::LowPressure { node: _, target: _ } => 0,
-        ControlCondition::HighLevel { tank: _, target: _ } => 0,
-        ControlCondition::LowLevel { tank: _, target: _ } => 0,
-        ControlCondition::Time { seconds } => seconds,
-        ControlCondition::ClockTime { seconds } => seconds,
+        ControlCondition::Time { seconds } | ControlCondition::ClockTime { seconds } => seconds,
+        _ => 0,
     }
 }
 
@@ -62,8 +57,7 @@ pub fn condition_seconds(condition: ControlCondition) -> u32
 fn above(node: Node, state: NodeState, target: f64) -> f64
     ensures { result ≡ above node state target }
 {
-    let head = state.head;
-    head - node.elevation() - target
+    state.head - node.elevation() - target
 }
 
 // Whether a condition holds, from the node that it watches.
@@ -77,22 +71,16 @@ pub fn is_active(
     ensures { result ≡ is_active condition node state time clock }
 {
     match condition {
-        ControlCondition::HighPressure { node: _, target } => above(node, state, target) >= -H_TOL,
-        ControlCondition::LowPressure { node: _, target } => above(node, state, target) <= H_TOL,
-        ControlCondition::HighLevel { tank: _, target } => {
-            if node.is_tank() {
-                return above(node, state, target) >= -L_TOL;
-            }
-            false
+        ControlCondition::HighPressure { target, .. } => above(node, state, target) >= -H_TOL,
+        ControlCondition::LowPressure { target, .. } => above(node, state, target) <= H_TOL,
+        ControlCondition::HighLevel { target, .. } => {
+            node.is_tank() & (above(node, state, target) >= -L_TOL)
         }
-        ControlCondition::LowLevel { tank: _, target } => {
-            if node.is_tank() {
-                return above(node, state, target) <= L_TOL;
-            }
-            false
+        ControlCondition::LowLevel { target, .. } => {
+            node.is_tank() & (above(node, state, target) <= L_TOL)
         }
         ControlCondition::Time { seconds } => seconds == time,
-        ControlCondition::ClockTime { seconds } => (seconds as u64) == clock,
+        ControlCondition::ClockTime { seconds } => u64::from(seconds) == clock,
     }
 }
 
@@ -100,34 +88,29 @@ pub fn is_active(
 pub fn activate(control: Control, link: Link, state: LinkState) -> Activated
     ensures { result ≡ activate control link state }
 {
-    let status = control.status;
-    let setting = control.setting;
-    match status {
-        StatusAction::SetStatus(new) => {
-            return Activated {
-                state: LinkState {
-                    flow: link.initial_flow(),
-                    status: new,
-                    setting: state.setting,
-                },
-                changed: state.status != new,
-            };
-        }
-        StatusAction::KeepStatus => {}
-    }
-    match setting {
-        SettingAction::SetSetting(new) => Activated {
+    if let Some(status) = control.status {
+        return Activated {
             state: LinkState {
                 flow: link.initial_flow(),
-                status: state.status,
-                setting: new,
+                status,
+                ..state
             },
-            changed: state.setting != new,
-        },
-        SettingAction::KeepSetting => Activated {
-            state: state,
-            changed: false,
-        },
+            changed: state.status != status,
+        };
+    }
+    if let Some(setting) = control.setting {
+        return Activated {
+            state: LinkState {
+                flow: link.initial_flow(),
+                setting,
+                ..state
+            },
+            changed: state.setting != setting,
+        };
+    }
+    Activated {
+        state,
+        changed: false,
     }
 }
 
@@ -135,17 +118,11 @@ pub fn activate(control: Control, link: Link, state: LinkState) -> Activated
 fn level_time(node: Node, state: NodeState, target: f64) -> u64
     ensures { result ≡ level_time node.kind state target }
 {
-    let kind = node.kind;
-    let head = state.head;
-    let demand = state.demand;
-    match kind {
-        NodeType::Reservoir(_) => MAX,
-        NodeType::Tank(t) => {
-            let level = Feet(head - t.elevation.0);
-            t.time_to_reach_level(level, Feet(target), CubicFeetPerSecond(demand))
-        }
-        NodeType::Junction(_) => MAX,
-    }
+    let NodeType::Tank(t) = node.kind else {
+        return MAX;
+    };
+    let level = Feet(state.head - t.elevation.0);
+    t.time_to_reach_level(level, Feet(target), CubicFeetPerSecond(state.demand))
 }
 
 // The seconds until a control next calls for a step to end, from the node that it watches.
@@ -159,10 +136,10 @@ pub fn candidate(
     ensures { result ≡ candidate condition node state time clock }
 {
     match condition {
-        ControlCondition::HighPressure { node: _, target: _ } => MAX,
-        ControlCondition::LowPressure { node: _, target: _ } => MAX,
-        ControlCondition::HighLevel { tank: _, target } => level_time(node, state, target),
-        ControlCondition::LowLevel { tank: _, target } => level_time(node, state, target),
+        ControlCondition::HighPressure { .. } | ControlCondition::LowPressure { .. } => MAX,
+        ControlCondition::HighLevel { target, .. } | ControlCondition::LowLevel { target, .. } => {
+            level_time(node, state, target)
+        }
         ControlCondition::Time { seconds } => time_candidate(seconds, time),
         ControlCondition::ClockTime { seconds } => clock_candidate(seconds, clock),
     }

@@ -3,6 +3,7 @@
 use Prim.Native.Nat.{◌≤◌, ◌<◌}
 use mathlib.Core.Path.{◌≡◌, refl}
 use mathlib.Core.Bool.{true}
+use Rattle.std.specs.Prelude.{Ok, Some, None}
 use Rattle.stops.proofs.Lists.{above_first, above_none}
 use Rattle.model.specs.declared.project.Project.{Project}
 use Rattle.model.specs.declared.state.State.{State}
@@ -14,14 +15,13 @@ use Rattle.calls.specs.Calls.{step}
 use Rattle.calls_sound.proofs.Theorem.{tables_of}
 use Rattle.second_clock.proofs.Tankless.{tankless}
 use Rattle.stops_ahead.specs.Foreseen.{stops_foreseen, stops_of, next_stop}
-use Rattle.stops_ahead.specs.declared.next.StopAnswer.TheVariants.{Stop, NoMore}
 use Rattle.stops_ahead.proofs.Tables.{foreseen_tankless, foreseen_frequent}
 use Rattle.list_words.specs.Calls as asking
 use Rattle.demand3.specs.Calls.{outcome}
 use Rattle.demand3.proofs.Lawful.{lawful}
 
 module _ (p : Project) (f : stops_foreseen p ≡ true) (s : State) (e : in_order p s ≡ true) where
-  pub next_is_step : s.clock.instant < p.options.duration → next_stop p s.clock.instant ≡ Stop (step p s).state.clock.instant
+  pub next_is_step : s.clock.instant < p.options.duration → next_stop p s.clock.instant ≡ Ok (Some (step p s).state.clock.instant)
   unfolding next_stop stops_of times_of outcome
   next_is_step l =
       let o = times_of p in
@@ -31,6 +31,6 @@ module _ (p : Project) (f : stops_foreseen p ≡ true) (s : State) (e : in_order
       rw (tables_of p s e, f, first, k.instant)
 
   -- and where the step answers 0 there is no more
-  pub none_at_the_end : p.options.duration ≤ s.clock.instant → next_stop p s.clock.instant ≡ NoMore
+  pub none_at_the_end : p.options.duration ≤ s.clock.instant → next_stop p s.clock.instant ≡ Ok None
   unfolding next_stop stops_of times_of
   none_at_the_end l = rw (tables_of p s e, f, above_none (times_of p) (triggers_of p) s.clock.instant l)

@@ -24,8 +24,8 @@ use Rattle.state.specs.Tanks.{update_tanks}
 use Rattle.simulation.specs.Steps.{times_of, triggers_of, length_of, moved_by, next_hydraulic_timestep}
 use Rattle.calls.specs.Calls as calls
 use Rattle.calls.specs.Calls.{start, premise_number}
-use Rattle.calls.specs.declared.PremiseAnswer.{PremiseAnswer}
-use Rattle.calls.specs.declared.PremiseAnswer.TheVariants.{Truth, Refused}
+use Rattle.std.specs.Prelude.{Result, Ok, Err}
+use Rattle.calls.specs.declared.refusal.Refusal.{Refusal}
 use Rattle.calls.specs.declared.StepCalled.{StepCalled}
 use Rattle.calls_sound.proofs.Step.{step_in_order, step_accepted, step_length_lem, step_within, step_moves}
 use Rattle.calls_sound.proofs.Theorem.{tables_of, state_of, start_in_order, patterns_in_order, patterns_accepted, controls_in_order, controls_accepted, tank_links_in_order, tank_links_accepted, pressure_in_order, pressure_accepted, load_in_order, load_number, premise_number_lem}
@@ -52,13 +52,13 @@ load_may p words = go (shape_ok (value_count p) words) (values_ok (value_count p
     go true false = inr (inr refl)
     go false b = inr (inl refl)
 
-asked_number : (a : PremiseAnswer) (s : State) → (asked a s).number ≡ premise_number a
-asked_number (Truth b) s = refl
-asked_number (Refused n) s = refl
+asked_number : (a : Result Bool Refusal) (s : State) → (asked a s).number ≡ premise_number a
+asked_number (Ok b) s = refl
+asked_number (Err r) s = refl
 
-asked_state : (a : PremiseAnswer) (s : State) → (asked a s).state ≡ s
-asked_state (Truth b) s = refl
-asked_state (Refused n) s = refl
+asked_state : (a : Result Bool Refusal) (s : State) → (asked a s).state ≡ s
+asked_state (Ok b) s = refl
+asked_state (Err r) s = refl
 
 zero_or_nine : (n : ℕ) (b : Bool) → n ≡ cond b 0 9 → (n ≡ 0) ⊎ (n ≡ 9)
 zero_or_nine n true e = inl e

@@ -19,8 +19,8 @@ use Rattle.solver.specs.declared.pressure.Pressed.{Pressed}
 use Rattle.calls.specs.Calls as calls
 use Rattle.calls.specs.Calls.{gives}
 use Rattle.calls.specs.declared.Called.{Called}
-use Rattle.calls.specs.declared.PremiseAnswer.{PremiseAnswer}
-use Rattle.calls.specs.declared.PremiseAnswer.TheVariants.{Truth, Refused}
+use Rattle.std.specs.Prelude.{Result, Ok, Err}
+use Rattle.calls.specs.declared.refusal.Refusal.{Refusal}
 use Rattle.calls.specs.declared.PressureCalled.{PressureCalled}
 use Rattle.solver.proofs.ByTable.{clock_kept}
 use Rattle.second_clock.specs.SecondClock.{second_applies}
@@ -52,9 +52,9 @@ judged_quiet p s a e = go (in_order p s)
     go true = e
     go false = refl
 
-asked_quiet : (a : PremiseAnswer) (s : State) → (asked a s).state.clock ≡ s.clock
-asked_quiet (Truth b) s = refl
-asked_quiet (Refused n) s = refl
+asked_quiet : (a : Result Bool Refusal) (s : State) → (asked a s).state.clock ≡ s.clock
+asked_quiet (Ok b) s = refl
+asked_quiet (Err r) s = refl
 
 loaded_quiet : (p : Project) (words : List ℕ) (s : State) (b : Bool) → (cond b (gives 0 (take_load p words s)) (gives (load_fault p words) s)).state.clock ≡ s.clock
 loaded_quiet p words s true = load_keeps_clock p words s

@@ -3,6 +3,7 @@ use mathlib.Core.Path.{◌≡◌}
 use mathlib.Core.Bool.{true}
 use mathlib.Core.List.{List}
 use Prim.Native.Nat.{ℕ}
+use Rattle.std.specs.Prelude.{None}
 use Rattle.clock.proofs.Demand3 as clock
 use Rattle.clock.specs.Machine.{final}
 use Rattle.stops.specs.Tankless.{Foreseen}
@@ -40,7 +41,7 @@ demand3_of_tables p e calls =
     }
 
 -- the image is accepted, its project's start is, and the claim holds of any list from there
-pub demand3 : (image : List ℕ) → (decode image).fault ≡ 0 → (calls : List Call)
+pub demand3 : (image : List ℕ) → (decode image).fault ≡ None → (calls : List Call)
     → ((start (decode image).project).number ≡ 0)
     × Demand3 (decode image).project calls (final (machine (decode image).project) calls (start (decode image).project).state)
 demand3 image e calls =

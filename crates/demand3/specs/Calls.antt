@@ -1,5 +1,5 @@
 -- What a call of a list answers, and the state that it leaves.
-use Rattle.std.specs.Prelude.{false, replicate}
+use Rattle.std.specs.Prelude.{Bool, false, replicate, Result, Ok, Err}
 use Rattle.model.specs.declared.project.Project.{Project}
 use Rattle.model.specs.declared.state.State.{State}
 use Rattle.tank_links.specs.Groups.{begins_of, middles_of, entries_of}
@@ -7,8 +7,8 @@ use Rattle.calls.specs.Calls as calls
 use Rattle.calls.specs.declared.Called.{Called}
 use Rattle.calls.specs.declared.PressureCalled.{PressureCalled}
 use Rattle.calls.specs.declared.StepCalled.{StepCalled}
-use Rattle.calls.specs.declared.PremiseAnswer.{PremiseAnswer}
-use Rattle.calls.specs.declared.PremiseAnswer.TheVariants.{Truth, Refused}
+use Rattle.calls.specs.declared.refusal.Refusal.{Refusal}
+use Rattle.calls.specs.Refusals.{refusal_number}
 use Rattle.second_clock.specs.SecondClock as second_clock
 use Rattle.list_words.specs.Calls.{Call, patterns, controls, load, tank_links, pressure, premise, step, second, tank_links_by_table}
 use Rattle.demand3.specs.declared.Outcome.{Outcome}
@@ -18,9 +18,9 @@ abbrev pub called : Called → Outcome
 called c = record { number = c.number; length = 0; truth = false; state = c.state }
 
 -- a premise leaves the state; refused, it yields no truth
-abbrev pub asked : PremiseAnswer → State → Outcome
-asked (Truth b) s = record { number = 0; length = 0; truth = b; state = s }
-asked (Refused n) s = record { number = n; length = 0; truth = false; state = s }
+abbrev pub asked : Result Bool Refusal → State → Outcome
+asked (Ok b) s = record { number = 0; length = 0; truth = b; state = s }
+asked (Err r) s = record { number = refusal_number r; length = 0; truth = false; state = s }
 
 -- whether the pressure pass changed anything; a step's length, by either clock
 abbrev pub pressed : PressureCalled → Outcome

@@ -29,14 +29,12 @@ fn run_all(
     input: &mut [u8; 16384],
     out: &mut [u8; 8192],
 ) -> io::Result<u32> {
-    let mut i = 0;
-    while i < 1000 {
+    for i in 0..1000 {
         if !run_case(rt, i, input, out)? {
             return Ok(i);
         }
-        i += 1;
     }
-    Ok(i)
+    Ok(1000)
 }
 
 fn main(rt: HostRuntime) -> io::Result<()> {

@@ -1,8 +1,9 @@
 -- The turns of a chunk over the arrays of a run: what the passes leave is one turn more. Assumes nothing.
 use Prim.Native.Nat.{ℕ, ◌+◌, ◌-◌, ◌*◌, ◌≤◌, ◌<◌}
+use Rattle.std.specs.Prelude.{Result, Ok, Err}
 use mathlib.Core.Path.{◌≡◌, refl, sym, ap, ◌∙◌, subst}
 use mathlib.Core.Bool.{Bool, true, false, cond, ◌&&◌}
-use mathlib.Core.List.{List, map}
+use mathlib.Core.List.{List}
 use native.Mathlib.Omega.{arith}
 use borrow.Author.Tests.{ltb-true, ltb-false}
 use lib.Dec.{eqb, ltb}
@@ -10,7 +11,7 @@ use lib.Ieee.{Float}
 use lib.ListN.{length, take, drop, length-drop}
 use lib.Seq.{take_all}
 use Rattle.number.specs.Constants.{MAX}
-use Rattle.clock.specs.Steps.{clock_time, advanced}
+use Rattle.clock.specs.Steps.{clock_time}
 use Rattle.clock.specs.declared.hand.Clock.{Clock}
 use Rattle.listing.specs.Listing.{Line, line_text}
 use Rattle.listing.specs.Text as text
@@ -21,25 +22,30 @@ use Rattle.model.specs.declared.project.Project.{Project}
 use Rattle.model.specs.declared.state.State.{State}
 use Rattle.judge.specs.Judgement.{in_order}
 use Rattle.tables.specs.Fit.{TablesFit}
-use Rattle.run_state.specs.Lists.{Links, Lists, head_of, demand_of, demand_flow_of, flow_of, status_of, setting_of, lists_of}
+use Rattle.run_state.specs.Lists.{lists_of}
+use Rattle.run_state.specs.declared.Links.{Links}
+use Rattle.run_state.specs.declared.Lists.{Lists}
+use Rattle.run_loads.specs.Faults.{load_fault_number}
+use Rattle.run_loads.specs.declared.fault.LoadFault.{LoadFault}
+use Rattle.run_loads.specs.declared.table.LoadTable.{LoadTable}
+use Rattle.run_tables.specs.declared.nodes.NodeList.{NodeList}
 use Rattle.run_state.proofs.Apart.{same_state}
 use Rattle.run_controls.specs.Apply.{links_after}
-use Rattle.run_periods.specs.Applying.{Written, patterns_applied}
+use Rattle.run_periods.specs.Applying.{inputs_of, written_in, patterns_applied}
 use Rattle.state.proofs.InForce.{none_in_force}
 use Rattle.state.proofs.Patterned.{period_of}
 use Rattle.calls_sound.proofs.Theorem.{state_of}
-use Rattle.driver_load.specs.Left.{Arrays, LoadedAs, none, cut, whole, words_for}
+use Rattle.driver_load.specs.Left.{LoadedAs, none, cut, faulty, whole, values_by}
 use Rattle.driver_load.specs.Sizes.{load_words, load_bytes}
-use Rattle.driver_load.specs.declared.Loaded.{Loaded}
 use Rattle.driver_load.proofs.Inner.{fit}
 use Rattle.driver_tables.specs.Laid.{Laid}
 use Rattle.driver_tables.specs.declared.Tables.{Tables}
 use Rattle.driver_turn.specs.Turns.{Turn, turn}
 use Rattle.driver_turn.specs.Turned.{TurnedAs}
-use Rattle.driver_turn.proofs.Arrays.{inputs_of, controlled, closed, summed, length_by, moved_on}
+use Rattle.driver_turn.specs.Steps.{closed, length_by, stepped}
 use Rattle.driver_turn.proofs.Cases.{turned_as, turn_finished, ended_as, stepped_as}
-use Rattle.driver_turn.proofs.Loads.{values_by, values_by_lem, with_arrays}
-use Rattle.driver_turn.proofs.Made.{Meets, MadeBy, prepared_arrays, made_refused, made_step}
+use Rattle.driver_turn.proofs.Loads.{values_by_lem}
+use Rattle.driver_turn.proofs.Made.{Meets, MadeBy, made_refused, made_step}
 use Rattle.driver_chunk.specs.Chunks.{wants_input, can_turn, TurnsRan}
 use Rattle.driver_chunk.proofs.Going.{Going, Ready, ready, going_begun, going_less, going_turn, going_ended}
 use Rattle.driver_chunk.proofs.Turning.{known}
@@ -61,27 +67,24 @@ pub record Turns (p : Project) (s : State) (input : List ℕ) (whole-input : Boo
   pub going : Going p s input whole-input before after state used written false wants
 
 -- no more bytes are taken than are left
-pub taken_fits : {bytes : List ℕ} {count links : ℕ} {junctions : List ℕ} {m : ℕ} {starts ends marks tanks : List ℕ} {n : ℕ} {x y : Arrays} {r : Loaded}
-    → LoadedAs bytes count links junctions m starts ends marks tanks n x y r → r.taken ≤ length bytes
-taken_fits (none z) = omega arith
-taken_fits (cut some k) = omega arith
-taken_fits {bytes} {count} (whole some k after fault taken j e) = by (eqb fault 0) e
-  where
-    by : (b : Bool) → taken ≡ cond b (words_for count * 4) 0 → taken ≤ length bytes
-    by true q = omega (arith, q, k)
-    by false q = omega (arith, q)
+pub taken_fits : {bytes : List ℕ} {t : LoadTable} {tanks : NodeList} {x y : Lists} {r : Result ℕ LoadFault} → LoadedAs bytes t tanks x y r
+    → (taken : ℕ) → r ≡ Ok taken → taken ≤ length bytes
+taken_fits (none z) taken q = let e : taken ≡ 0 = cc in omega (arith, e)
+taken_fits (cut some k) taken q = absurd (cc)
+taken_fits (faulty some k f e) taken q = absurd (cc)
+taken_fits (whole some k z after e size long) taken q = let e : taken ≡ size = cc in omega (arith, e, long, k)
 
-pub taken_inside : (input : List ℕ) (used : ℕ) {count links : ℕ} {junctions : List ℕ} {m : ℕ} {starts ends marks tanks : List ℕ} {n : ℕ} {x y : Arrays} {r : Loaded}
-    → LoadedAs (take (length input - used) (drop used input)) count links junctions m starts ends marks tanks n x y r → used ≤ length input → used + r.taken ≤ length input
-taken_inside input used l k =
+pub taken_inside : (input : List ℕ) (used : ℕ) {t : LoadTable} {tanks : NodeList} {x y : Lists} {r : Result ℕ LoadFault}
+    → LoadedAs (take (length input - used) (drop used input)) t tanks x y r → (taken : ℕ) → r ≡ Ok taken → used ≤ length input → used + taken ≤ length input
+taken_inside input used l taken q k =
     let n : length (drop used input) ≤ length input - used = omega (arith, length-drop used input) in
-    omega (arith, taken_fits l, ap length (take_all (length input - used) (drop used input) n), length-drop used input)
+    omega (arith, taken_fits l taken q, ap length (take_all (length input - used) (drop used input) n), length-drop used input)
 
 module _ {p : Project} {s : State} {t : Tables} {multipliers : List Float} {a₀ : Lists} (b : Begins p s t multipliers a₀) where
   fits : TablesFit p
   fits = fit p s b.ordered
 
-  bytes_are : (1 + 2 * values_by t) * 4 ≡ load_bytes p
+  bytes_are : (1 + 2 * values_by t.load) * 4 ≡ load_bytes p
   unfolding load_words
   bytes_are = rw (values_by_lem b.laid fits)
 
@@ -93,7 +96,7 @@ module _ {p : Project} {s : State} {t : Tables} {multipliers : List Float} {a₀
   instant_is u e = ap (λ (x : Lists). x.clock.instant) e
 
   pub turns_begun : {input : List ℕ} {whole-input : Bool} {before : List ℕ} {wants : ℕ}
-      → wants ≡ wants_input t.options.duration a₀.clock.instant whole-input (length input) ((1 + 2 * values_by t) * 4)
+      → wants ≡ wants_input t.options.duration a₀.clock.instant whole-input (length input) ((1 + 2 * values_by t.load) * 4)
       → Turns p s input whole-input before before a₀ MAX 0 0 wants
   turns_begun w = record {
     state = s;
@@ -161,82 +164,60 @@ module _ {p : Project} {s : State} {t : Tables} {multipliers : List Float} {a₀
           counted : a.clock.count ≡ now.clock.count
           counted = ap (λ (v : Lists). v.clock.count) g.meets.held
 
-      module _ (early : a.clock.instant < t.options.duration) (table : List Float) (long : length table ≡ 33) {w : Written} {l : Links} {current : ℕ}
-          (e : current ≡ period t.options.pattern_start t.options.pattern a.clock.instant)
-          (patterns : patterns_applied (inputs_of t multipliers) t.tanks.nodes t.tanks.count in-force a.clock.instant (record { table = table; heads = a.heads; demands = a.demands; flows = a.demand_flows }) ≡ w)
+      module _ (early : a.clock.instant < t.options.duration) (table : List Float) (long : length table ≡ 33) {d : Lists} {table' : List Float} {l : Links} {current : ℕ}
+          (e : current ≡ period t.patterns.start t.patterns.timestep a.clock.instant)
+          (patterns : patterns_applied (inputs_of t.patterns multipliers) t.tanks.at.nodes t.tanks.at.count in-force a.clock.instant (written_in table a) ≡ written_in table' d)
+          (stay : d.links ≡ a.links) (still : d.clock ≡ a.clock)
           {hour : ℕ} (hour_is : hour ≡ clock_time t.times.start_clock a.clock.instant)
-          (controls : links_after t.controls.words t.controls.numbers t.controls.count w.heads a.clock.instant hour a.links ≡ l)
-          {x : Arrays} {r : Loaded}
-          (loaded : LoadedAs (take (length input - used) (drop used input)) (values_by t) t.links t.junctions.nodes t.junctions.count t.ends.starts t.ends.ends t.marks t.tanks.nodes t.tanks.count
-          (record { flows = l.flows; heads = w.heads; demands = w.demands }) x r) where
-        controls_are : controlled t w.heads a.clock.instant a.links ≡ l
-        controls_are = ap (λ (h : ℕ). links_after t.controls.words t.controls.numbers t.controls.count w.heads a.clock.instant h a.links) (sym hour_is) ∙ controls
+          (controls : l ≡ links_after t.controls.words t.controls.numbers t.controls.count d.heads a.clock.instant hour d.links)
+          {x : Lists} {r : Result ℕ LoadFault}
+          (loaded : LoadedAs (take (length input - used) (drop used input)) t.load t.tanks.at
+          (record { heads = d.heads; demands = d.demands; demand_flows = d.demand_flows; links = l; clock = d.clock }) x r) where
+        controls_are : l ≡ links_after t.controls.words t.controls.numbers t.controls.count d.heads a.clock.instant (clock_time t.times.start_clock a.clock.instant) d.links
+        controls_are = controls ∙ ap (λ (h : ℕ). links_after t.controls.words t.controls.numbers t.controls.count d.heads a.clock.instant h d.links) hour_is
 
         soon : now.clock.instant < p.options.duration
         soon = omega (arith, early, duration_is, now_instant)
 
         current_is : current ≡ period_of p now
-        current_is =
-            e
-            ∙ ap (λ (o : Options). period o.pattern_start o.pattern a.clock.instant) b.laid.options
-            ∙ ap (period p.options.pattern_start p.options.pattern) now_instant
+        current_is = e ∙ rw (b.laid.patterns.start, b.laid.patterns.timestep) (ap (period p.options.pattern_start p.options.pattern) now_instant)
 
         -- the run ends at a fault
-        pub turns_refused : (r.fault ≡ 0 → ⊥) → {st : State} → lists_of st ≡ with_arrays (prepared_arrays a w l) x → {end : ℕ} {later : List ℕ}
-            → end ≡ text.after after written (line_text (Line.refused r.fault)) → later ≡ text.put after written (line_text (Line.refused r.fault))
+        pub turns_refused : (f : LoadFault) → r ≡ Err f → {number : ℕ} → number ≡ load_fault_number f → {st : State} → lists_of st ≡ x → {end : ℕ} {later : List ℕ}
+            → end ≡ text.after after written (line_text (Line.refused number)) → later ≡ text.put after written (line_text (Line.refused number))
             → TurnsRan p s input whole-input before later (record { state = st; used = used; written = end; over = true; wants = wants })
-        turns_refused z {st} q {end} {later} u v =
-            let made = made_refused b.laid b.same b.whole now a table long in-force g.meets soon patterns controls_are _ loaded z current_is in
-            rw (packed_is st made.next q made.met.held) (ended made.next (Line.refused r.fault) (on_rest made.turned) u v)
+        turns_refused f z {number} n {st} q {end} {later} u v =
+            let made = made_refused b.laid b.same b.whole now a table long in-force g.meets soon patterns stay still controls_are _ loaded f z current_is in
+            rw (packed_is st made.next q made.met.held)
+            (ended made.next (Line.refused (load_fault_number f)) (on_rest made.turned)
+            (u ∙ ap (λ (k : ℕ). text.after after written (line_text (Line.refused k))) n) (v ∙ ap (λ (k : ℕ). text.put after written (line_text (Line.refused k))) n))
 
-        module _ (z : r.fault ≡ 0) {statuses : List ℕ} {demands heads : List Float} {seconds : ℕ}
-            (closes : statuses ≡ closed t x.heads x.flows l.statuses)
-            (sums : demands ≡ summed t x.flows x.demands)
-            (lasts : seconds ≡ length_by t x.heads demands a.clock.instant)
-            (moves : heads ≡ moved_on t demands seconds x.heads)
-            {clock : Clock} (ticks : clock ≡ advanced a.clock seconds)
+        module _ (taken : ℕ) (z : r ≡ Ok taken) {seconds : ℕ} (lasts : seconds ≡ length_by t (closed t x)) {arrays : Lists} (steps : arrays ≡ stepped t seconds x)
             {end : ℕ} {later : List ℕ}
             (placed : end ≡ text.after after written (line_text (Line.step a.clock.instant seconds)))
             (put : later ≡ text.put after written (line_text (Line.step a.clock.instant seconds))) where
-          abbrev arrays : Lists
-          arrays = record { heads = heads; demands = demands; demand_flows = w.flows; links = record { flows = x.flows; statuses = statuses; settings = l.settings }; clock = clock }
+          made : MadeBy p now (take (length input - used) (drop used input)) arrays current taken (Line.step a.clock.instant seconds) false
+          made = rw steps (made_step b.laid b.same b.whole now a table long in-force g.meets soon patterns stay still controls_are _ loaded taken z lasts current_is)
 
-          made : MadeBy p now (take (length input - used) (drop used input)) arrays current r.taken (Line.step a.clock.instant seconds) false
-          made = rw ticks (made_step b.laid b.same b.whole now a table long in-force g.meets soon patterns controls_are _ loaded z closes sums lasts moves current_is)
-
-          done : TurnedAs (turn p now (drop used input)) written after later (record { state = made.next; taken = r.taken; at = end; last = false })
-          done = turned_as (on_rest made.turned) (stepped_as room made.next r.taken (Line.step a.clock.instant seconds) placed put)
+          done : TurnedAs (turn p now (drop used input)) written after later (record { state = made.next; taken = taken; at = end; last = false })
+          done = turned_as (on_rest made.turned) (stepped_as room made.next taken (Line.step a.clock.instant seconds) placed put)
 
           pub turns_less : t.options.duration - arrays.clock.instant < t.options.duration - a.clock.instant
           turns_less = omega (arith, going_less g.going rdy done, duration_is, now_instant, instant_is made.next made.met.held)
 
           pub turns_step : {later-wants : ℕ}
-              → later-wants ≡ wants_input t.options.duration arrays.clock.instant whole-input (length input - (used + r.taken)) ((1 + 2 * values_by t) * 4)
-              → Turns p s input whole-input before later arrays current (used + r.taken) end later-wants
+              → later-wants ≡ wants_input t.options.duration arrays.clock.instant whole-input (length input - (used + taken)) ((1 + 2 * values_by t.load) * 4)
+              → Turns p s input whole-input before later arrays current (used + taken) end later-wants
           turns_step q = record {
             state = made.next;
             meets = made.met;
             going = going_turn g.going rdy done bytes_are
                 (q
-                ∙ ap (λ (n : ℕ). wants_input n arrays.clock.instant whole-input (length input - (used + r.taken)) ((1 + 2 * values_by t) * 4)) duration_is
-                ∙ ap (λ (n : ℕ). wants_input p.options.duration n whole-input (length input - (used + r.taken)) ((1 + 2 * values_by t) * 4)) (instant_is made.next made.met.held));
+                ∙ ap (λ (n : ℕ). wants_input n arrays.clock.instant whole-input (length input - (used + taken)) ((1 + 2 * values_by t.load) * 4)) duration_is
+                ∙ ap (λ (n : ℕ). wants_input p.options.duration n whole-input (length input - (used + taken)) ((1 + 2 * values_by t.load) * 4)) (instant_is made.next made.met.held));
           }
 
 -- ---- of every project that the tables and the first arrays are of
-abbrev pub lists : List Float → List Float → List Float → List Float → List ℕ → List Float → Clock → Lists
-lists heads demands demand_flows flows statuses settings clock = record {
-  heads = heads;
-  demands = demands;
-  demand_flows = demand_flows;
-  links = record { flows = flows; statuses = statuses; settings = settings };
-  clock = clock;
-}
-
-pub held_at_first : (s : State) {heads demands demand_flows flows settings : List Float} {statuses : List ℕ} → heads ≡ map head_of s.nodes → demands ≡ map demand_of s.nodes
-    → demand_flows ≡ map demand_flow_of s.nodes → flows ≡ map flow_of s.links → statuses ≡ map status_of s.links → settings ≡ map setting_of s.links
-    → lists heads demands demand_flows flows statuses settings s.clock ≡ lists_of s
-held_at_first s a b c d e f = rw (a, b, c, d, e, f)
-
 abbrev pub AllTurns : Tables → List Float → Lists → List ℕ → Bool → List ℕ → List ℕ → Lists → ℕ → ℕ → ℕ → ℕ → Type 0
 AllTurns t multipliers a₀ input whole-input before after a in-force used written wants =
     (p : Project) (s : State) → Begins p s t multipliers a₀ → Turns p s input whole-input before after a in-force used written wants

@@ -38,12 +38,11 @@ pub record TurnsRan (p : Project) (s : State) (input : List ℕ) (whole : Bool) 
   pub goes : r.over ≡ false → 22 ≤ length before → (s.clock.instant < r.state.clock.instant) ⊎ ((r.wants ≡ 0 → ⊥) × (s.clock.instant ≡ r.state.clock.instant))
   pub moves : r.over ≡ false → 22 ≤ length before → (whole ≡ true) ⊎ (load_bytes p ≤ length input) → s.clock.instant < r.state.clock.instant
 
--- what a chunk asks: a project, in order with the state, whose tables and multipliers they are, the table of multipliers whole
+-- what a chunk asks: a project, in order with the state, whose tables and multipliers they are
 pub record RunOf (t : Tables) (multipliers : List Float) (s : State) : Type 0 where
   pub project : Project
   pub laid : Laid project t
   pub same : multipliers ≡ project.multipliers
-  pub whole : length multipliers ≡ 5376
   pub ordered : in_order project s ≡ true
 
 -- and what it promises of every such project

@@ -1,12 +1,11 @@
 #![tactic(auto)]
 // The driver's run in chunks: each takes some bytes of the input and fills a buffer with lines, as many turns as the input and the room allow.
-// A chunk unpacks the state into arrays of numbers, lends them to the passes of every turn, and packs the state again. What it demands is that tables and
+// A chunk unpacks the state into lists of numbers, lends them to the passes of every turn, and packs the state again. What it demands is that tables and
 // state are those of a project in order: whoever makes chunks lays the tables out once, and by soundness every turn leaves a state in order.
-ghost use Rattle.std.specs.Prelude.{◌≡◌, false, ◌&&◌, ltb, length};
-ghost use Rattle.run_state.specs.Lists.{lists_of};
+ghost use Rattle.std.specs.Prelude.{◌≡◌, false, ◌&&◌, ltb};
 ghost use Rattle.driver_chunk.specs.Chunks.{wants_input, can_turn, RunOf, Advanced};
 
-use clock::{Clock, clock_time};
+use clock::clock_time;
 use driver_load::load_left;
 use driver_tables::Tables;
 use driver_turn::step;
@@ -63,189 +62,78 @@ fn can_step(wants: usize, room: usize, instant: u32, duration: u32) -> bool
     can_turn(false, wants, room) & (instant < duration)
 }
 
-// Room for the multipliers of an instant.
-fn no_table() -> [f64; 33]
-    ensures { 33 ≡ length result }
-{
-    [1.0; 33]
-}
-
-// The arrays, packed.
-fn state_of(
-    heads: [f64; 256],
-    demands: [f64; 256],
-    demand_flows: [f64; 256],
-    flows: [f64; 384],
-    statuses: [u32; 384],
-    settings: [f64; 384],
-    clock: Clock,
-) -> State
-    ensures { lists_of result ≡ record { heads = heads; demands = demands; demand_flows = demand_flows; links = record { flows = flows; statuses = statuses; settings = settings }; clock = clock } }
-{
-    let nodes = nodes_from(heads, demands, demand_flows);
-    let links = links_from(flows, statuses, settings);
-    State {
-        nodes: nodes,
-        links: links,
-        clock: clock,
-    }
-}
-
 // `whole` says that no input comes after this. Before the first turn no period's patterns are in force: MAX is none.
 pub fn advance(
-    t: Tables,
+    t: &Tables,
     multipliers: &[f64; 5376],
     s: State,
     input: &[u8],
     whole: bool,
     out: &mut [u8],
 ) -> Chunk
-    requires { RunOf t multipliers.now s }
-    ensures { Advanced t multipliers.now s input.now whole out.old out.new result }
+    requires { RunOf t.now multipliers.now s }
+    ensures { Advanced t.now multipliers.now s input.now whole out.old out.new result }
 {
-    let ns = s.nodes;
-    let ls = s.links;
-    let mut heads = heads_of(ns);
-    let mut demands = demands_of(ns);
-    let mut demand_flows = demand_flows_of(ns);
-    let mut flows = flows_of(ls);
-    let mut statuses = statuses_of(ls);
-    let mut settings = settings_of(ls);
-    let mut clock = s.clock;
-    let mut table = no_table();
+    let mut lists = Lists::of(&s);
+    let mut table = [1.0; 33];
     let mut in_force = MAX;
-    let o = t.options;
-    let times = t.times;
-    let duration = o.duration;
-    let count = t.links + t.junctions.count;
-    let size = (1 + 2 * count) * 4;
+    let duration = t.options.duration;
+    let size = (1 + 2 * t.load.count()) * 4;
     let mut used = 0;
     let mut written = 0;
-    let mut wants = wants_input(duration, clock.instant, whole, input.len(), size);
-    while can_step(wants, out.len() - written, clock.instant, duration) {
-        let time = clock.instant;
-        let hour = clock_time(times.start_clock, time);
+    let mut wants = wants_input(duration, lists.clock.instant, whole, input.len(), size);
+    while can_step(wants, out.len() - written, lists.clock.instant, duration) {
+        let time = lists.clock.instant;
+        let hour = clock_time(t.times.start_clock, time);
         in_force = apply_patterns(
-            in_force,
-            &t.lengths,
+            &t.patterns,
             multipliers,
-            o.pattern_start,
-            o.pattern,
+            &t.tanks.at,
+            in_force,
             time,
-            &t.demands.counts,
-            &t.demands.bases,
-            &t.demands.patterns,
-            o.demand_multiplier,
-            o.pda,
-            t.nodes,
-            &t.heads.nodes,
-            &t.heads.elevations,
-            &t.heads.patterns,
-            t.heads.count,
-            &t.tanks.nodes,
-            t.tanks.count,
             &mut table,
-            &mut heads,
-            &mut demands,
-            &mut demand_flows,
+            &mut lists,
         );
-        apply_controls(
-            &t.controls.words,
-            &t.controls.numbers,
-            t.controls.count,
-            &heads,
-            time,
-            hour,
-            &mut flows,
-            &mut statuses,
-            &mut settings,
-        );
-        let loaded = load_left(
-            &input[used..],
-            count,
-            t.links,
-            &t.junctions.nodes,
-            t.junctions.count,
-            &t.ends.starts,
-            &t.ends.ends,
-            &t.marks,
-            &t.tanks.nodes,
-            t.tanks.count,
-            &mut flows,
-            &mut heads,
-            &mut demands,
-        );
-        let fault = loaded.fault;
-        if fault != 0 {
-            let end = listing::put_refused_line(out, written, fault);
-            let state = state_of(
-                heads,
-                demands,
-                demand_flows,
-                flows,
-                statuses,
-                settings,
-                clock,
-            );
-            return Chunk {
-                state: state,
-                used: used,
-                written: end,
-                over: true,
-                wants: wants,
-            };
-        }
-        let length = step(
-            times,
-            time,
-            &t.tanks.nodes,
-            &t.tanks.numbers,
-            &t.tanks.overflows,
-            t.tanks.count,
-            &t.groups.begins,
-            &t.groups.middles,
-            &t.groups.links,
-            &t.levels.tanks,
-            &t.levels.targets,
-            t.levels.count,
-            &t.time_calls.seconds,
-            t.time_calls.count,
-            &t.clock_calls.seconds,
-            t.clock_calls.count,
-            &flows,
-            &mut statuses,
-            &mut demands,
-            &mut heads,
-        );
-        clock = clock.advanced(length);
+        apply_controls(&t.controls, &lists.heads, time, hour, &mut lists.links);
+        let taken = match load_left(&input[used..], &t.load, &t.tanks.at, &mut lists) {
+            Ok(taken) => taken,
+            Err(fault) => {
+                let end = listing::put_refused_line(out, written, fault.number());
+                return Chunk {
+                    state: lists.state(),
+                    used,
+                    written: end,
+                    over: true,
+                    wants,
+                };
+            }
+        };
+        let length = step(t, &mut lists);
         written = listing::put_step_line(out, written, time, length);
-        used += loaded.taken;
-        wants = wants_input(duration, clock.instant, whole, input.len() - used, size);
+        used += taken;
+        wants = wants_input(
+            duration,
+            lists.clock.instant,
+            whole,
+            input.len() - used,
+            size,
+        );
     }
-    let state = state_of(
-        heads,
-        demands,
-        demand_flows,
-        flows,
-        statuses,
-        settings,
-        clock,
-    );
     if can_turn(false, wants, out.len() - written) {
-        let end = listing::put_steps_line(out, written, clock.count);
+        let end = listing::put_steps_line(out, written, lists.clock.count);
         return Chunk {
-            state: state,
-            used: used,
+            state: lists.state(),
+            used,
             written: end,
             over: true,
-            wants: wants,
+            wants,
         };
     }
     Chunk {
-        state: state,
-        used: used,
-        written: written,
+        state: lists.state(),
+        used,
+        written,
         over: false,
-        wants: wants,
+        wants,
     }
 }

@@ -4,13 +4,12 @@ ghost use Rattle.std.specs.Prelude.{◌≡◌, ◌≤◌};
 ghost use Rattle.driver_image.specs.Opening.{image_words};
 
 // How many words the image has, by the first four bytes of the input, or 0 where they are refused.
+// kept: 0 stands for every refusal, which document 01 gives one number, and driver_io asks for the count alone.
+#[tactic(auto, unfolding(crate::specs::Opening::image_words))]
 pub fn image_words(head: &[u8]) -> usize
     ensures value { result ≡ image_words head.now }
     ensures upper_bound { result ≤ 16384 }
 {
-    if head.len() < 4 {
-        return 0;
-    }
     let n = words::word_at(head, 0);
     if 16384 < n {
         return 0;

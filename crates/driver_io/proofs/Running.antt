@@ -18,7 +18,8 @@ use Rattle.driver_io.specs.declared.Held.{Held}
 use Rattle.driver_load.specs.Sizes.{load_words, load_bytes}
 use Rattle.driver_load.proofs.Inner.{fit}
 use Rattle.driver_tables.specs.declared.Tables.{Tables}
-use Rattle.driver_turn.proofs.Loads.{values_by, values_by_lem}
+use Rattle.driver_load.specs.Left.{values_by}
+use Rattle.driver_turn.proofs.Loads.{values_by_lem}
 use Rattle.driver_chunk.specs.declared.Chunk.{Chunk}
 use Rattle.driver_chunk.specs.Chunks.{TurnsRan, RunOf, Advanced}
 use Rattle.driver_chunk.proofs.Going.{wants_load}
@@ -66,7 +67,7 @@ module _ {p : Project} {s : State} {input : List ℕ} {whole : Bool} {before aft
 
 -- how many bytes a load has, by the tables
 abbrev pub load_size : Tables → ℕ
-load_size t = (1 + 2 * values_by t) * 4
+load_size t = (1 + 2 * values_by t.load) * 4
 
 -- between two chunks
 pub record Running (t : Tables) (xs₀ ys₀ xs ys : List ℕ) (held : Held) (wants : ℕ) : Type 0 where
@@ -94,7 +95,7 @@ module _ {t : Tables} {multipliers : List Float} {s : State} (q : RunOf t multip
 
   -- the state after it is one to go on from
   pub run_on : RunOf t multipliers r.state
-  run_on = record { project = q.project; laid = q.laid; same = q.same; whole = q.whole; ordered = ran_by.ordered }
+  run_on = record { project = q.project; laid = q.laid; same = q.same; ordered = ran_by.ordered }
 
   pub less_by : (wants : ℕ) → (wants ≡ 0) ⊎ (load_size t ≤ wants) → ((wants ≡ 0 → ⊥) → (whole ≡ true) ⊎ (wants ≤ length input)) → 22 ≤ length before
       → left r.over t.options.duration r.state.clock.instant r.wants < left false t.options.duration s.clock.instant wants

@@ -2,15 +2,17 @@
 // The driver between a reader and a writer: it reads an image and loads, and writes the listing. This crate only moves bytes; what they are is put
 // together by `driver_image` and `driver_chunk`. No contract can say what is read or written: the law `image_accepted` of `driver_printed` says that the
 // chunks' texts, written one after the other, are what document 01 asks for. A read or write that fails ends the listing with its error.
-ghost use Rattle.std.specs.Prelude.{◌+◌, ◌-◌, ◌≤◌, min, ◌≡◌, ◌++◌, length, take, drop, IfOk};
+ghost use Rattle.std.specs.Prelude.{◌-◌, ◌≤◌, ◌≡◌, true, ◌++◌, length, take, drop, IfOk};
+ghost use Rattle.tables.specs.Fit.{TablesFit};
+ghost use Rattle.tables.specs.Tables.{tables_ok};
 ghost use Rattle.state.specs.Starting.{start_from};
-ghost use Rattle.driver_tables.specs.Laid.{PartsInside, LaidFrom};
+ghost use Rattle.driver_tables.specs.Laid.{Laid, PartsInside};
 ghost use Rattle.driver_chunk.specs.Chunks.{RunOf};
-ghost use Rattle.driver_io.specs.Held.{Filled, Accepted};
+ghost use Rattle.driver_io.specs.Held.{Filled};
 
 use driver_tables::{Tables, lay_out};
-use image::Parts;
-use model::State;
+use image_entry::Fault;
+use model::{Project, State};
 use replay_input::read_full;
 use state::start_from;
 use std::io;
@@ -42,13 +44,10 @@ fn shift(buf: &mut [u8], from: usize, to: usize) -> usize
     ensures value { result ≡ to - from }
     ensures buf_after { buf.new ≡ take (to - from) (drop from buf.old) ++ drop (to - from) buf.old }
 {
-    let n = to - from;
-    let mut i = 0;
-    while i < n {
+    for i in 0..to - from {
         buf[i] = buf[from + i];
-        i += 1;
     }
-    n
+    to - from
 }
 
 // Reads behind the first have bytes until there are need of them, or the input ends, and answers how many there are. A read takes what has
@@ -88,10 +87,10 @@ fn refill<R: Read>(input: &mut [u8], h: Held, wants: usize, from: &mut R) -> io:
     })
 }
 
-// The run by the tables of a project, from its state at the start. Tables are handed over once a chunk.
+// The run by the tables of a project, from its state at the start.
 #[inline(never)]
 fn run<R: Read, W: Write>(
-    t: Tables,
+    t: &Tables,
     multipliers: &[f64; 5376],
     start: State,
     input: &mut [u8],
@@ -100,7 +99,7 @@ fn run<R: Read, W: Write>(
     to: &mut W,
 ) -> io::Result<()>
     requires in_bounds { 22 ≤ length out.old }
-    requires run_of { RunOf t multipliers.now start }
+    requires run_of { RunOf t.now multipliers.now start }
 {
     let mut state = start;
     let mut held = Held {
@@ -125,31 +124,11 @@ fn run<R: Read, W: Write>(
     Ok(())
 }
 
-// Room for the patterns of an image.
-fn no_lengths() -> [usize; 32] {
-    [0; 32]
-}
-
-fn no_multipliers() -> [f64; 5376] {
-    [0.0; 5376]
-}
-
-// Room for the words of an image.
-fn no_words() -> [u32; 16384] {
-    [0; 16384]
-}
-
-fn least(a: usize, b: usize) -> usize
-    ensures { result ≡ min a b }
-{
-    if a < b { a } else { b }
-}
-
 // Reads as many words as both have room for, and answers how many there are: none where the input ends before the last of them.
 fn read_piece<R: Read>(from: &mut R, buf: &mut [u8], words: &mut [u32]) -> io::Result<usize>
     ensures { IfOk result (λ n. n ≤ length words.old) }
 {
-    let size = least(buf.len() / 4, words.len()) * 4;
+    let size = (buf.len() / 4).min(words.len()) * 4;
     let got = read_full(from, &mut buf[..size])?;
     if got < size {
         return Ok(0);
@@ -188,76 +167,62 @@ fn read_image<R: Read>(from: &mut R, buf: &mut [u8], words: &mut [u32; 16384]) -
     read_words(from, buf, words, count)
 }
 
-// What the image says. Its words are needed no longer than here: inlined, they would take stack from the whole run. An error of a read is handed out
-// beside, since an answer that may be an error is a copy of all that the image says, on the stack too.
+// What the image says. Its words are needed no longer than here: inlined, they would take stack from the whole run.
 #[inline(never)]
 fn open_image<R: Read>(
     from: &mut R,
     buf: &mut [u8],
-    lengths: &mut [usize; 32],
-    multipliers: &mut [f64; 5376],
-    failed: &mut io::Result<()>,
-) -> Parts
+    p: &mut Project,
+) -> io::Result<Result<(), Fault>>
     requires { 4 ≤ length buf.old }
-    ensures { result.fault ≡ 0 → Accepted result lengths.new multipliers.new }
+    ensures { IfOk result (λ r. IfOk r (λ u. tables_ok p.new ≡ true)) }
 {
-    let mut words = no_words();
-    let n = match read_image(from, buf, &mut words) {
-        Ok(n) => n,
-        Err(e) => {
-            *failed = Err(e);
-            0
-        }
-    };
-    image::decode_into(&words[..n], lengths, multipliers)
+    let mut words = [0; 16384];
+    let n = read_image(from, buf, &mut words)?;
+    Ok(image::decode_into(&words[..n], p))
 }
 
-// The tables of what the image says, laid out once. Inlined, the copies that it is laid out from would take stack from the whole run.
+// Tables with nothing in them. Inlined, they would stand on the stack three times as long as the run goes.
 #[inline(never)]
-fn tables_of(parts: Parts, lengths: [usize; 32]) -> Tables
-    requires { PartsInside parts.counts parts.links parts.controls }
-    ensures { LaidFrom parts.options parts.counts lengths parts.nodes parts.links parts.controls result }
-{
-    let options = parts.options;
-    let counts = parts.counts;
-    let nodes = parts.nodes;
-    let links = parts.links;
-    let controls = parts.controls;
-    lay_out(options, counts, lengths, nodes, links, controls)
+fn no_project() -> Project {
+    Project::empty()
 }
 
-// Its state at the start.
+// The tables of a run. Inlined, what they are laid out from would take stack from the whole run.
 #[inline(never)]
-fn start_of(parts: Parts) -> State
-    requires nodes_bound { parts.counts.nodes ≤ 256 }
-    requires links_bound { parts.counts.links ≤ 384 }
-    ensures { result ≡ start_from parts.nodes parts.counts.nodes parts.links parts.counts.links }
+fn tables_of(p: &Project) -> Tables
+    requires { PartsInside p.now.counts p.now.links p.now.controls }
+    ensures { TablesFit p.now → Laid p.now result }
 {
-    let counts = parts.counts;
-    let nodes = parts.nodes;
-    let links = parts.links;
-    start_from(nodes, counts.nodes, links, counts.links)
+    lay_out(p)
+}
+
+// The state at the start, likewise.
+#[inline(never)]
+fn start_of(p: &Project) -> State
+    requires { (p.now.counts.nodes ≤ 256) × (p.now.counts.links ≤ 384) }
+    ensures { result ≡ start_from p.now.nodes p.now.counts.nodes p.now.links p.now.counts.links }
+{
+    start_from(&p.nodes, p.counts.nodes, &p.links, p.counts.links)
 }
 
 // The header of an image that was accepted, and the run from the start. Inlined, its tables would take stack while the image is read.
 #[inline(never)]
 fn play<R: Read, W: Write>(
-    parts: Parts,
-    lengths: [usize; 32],
-    multipliers: &[f64; 5376],
+    p: &Project,
     input: &mut [u8],
     out: &mut [u8],
     from: &mut R,
     to: &mut W,
 ) -> io::Result<()>
-    requires accepted { Accepted parts lengths multipliers.now }
+    requires accepted { tables_ok p.now ≡ true }
     requires in_bounds { 22 ≤ length out.old }
 {
     let h = listing::put_header(out, 0);
     write(to, &out[..h])?;
-    let t = tables_of(parts, lengths);
-    let start = start_of(parts);
-    run(t, multipliers, start, input, out, from, to)
+    let t = &tables_of(p);
+    let start = start_of(p);
+    run(t, &p.multipliers, start, input, out, from, to)
 }
 
 // The image, and its run or the number of its fault.
@@ -270,16 +235,12 @@ fn drive_slices<R: Read, W: Write>(
     requires in_bounds { 4 ≤ length input.old }
     requires in_bounds_2 { 22 ≤ length out.old }
 {
-    let mut lengths = no_lengths();
-    let mut multipliers = no_multipliers();
-    let mut failed = Ok(());
-    let parts = open_image(from, input, &mut lengths, &mut multipliers, &mut failed);
-    failed?;
-    let fault = parts.fault;
-    if fault != 0 {
-        return refuse(fault, out, to);
+    // Lent from the place that it is answered to: a local of its own would be a copy on the stack.
+    let project = &mut no_project();
+    if let Err(fault) = open_image(from, input, project)? {
+        return refuse(fault.number(), out, to);
     }
-    play(parts, lengths, &multipliers, input, out, from, to)
+    play(project, input, out, from, to)
 }
 
 // Room for loads, of which none has more than 5,124 bytes: the more of them come in one chunk, the less is handed over for each.

@@ -1,41 +1,33 @@
--- Needs no belief: what becomes of the arrays of a run where some bytes of the input are left. driver_turn's laws show that it comes to document 01's load.
-use Rattle.std.specs.Prelude.{ℕ, ◌+◌, ◌*◌, ◌≤◌, ◌<◌, ◌≡◌, cond, List, eqb, Float, length}
+-- Needs no belief: what becomes of the lists of a run where some bytes of the input are left. driver_turn's laws show that it comes to document 01's load.
+use Rattle.std.specs.Prelude.{ℕ, ◌+◌, ◌*◌, ◌≤◌, ◌<◌, ◌≡◌, List, length, Result, Ok, Err}
 use Rattle.words.specs.Words.{first_words}
-use Rattle.run_loads.specs.Taking.{fault_of, flows_taken, heads_taken, inflows_summed}
-use Rattle.run_tanks.specs.Emptying.{tanks_emptied}
-use Rattle.driver_load.specs.declared.Loaded.{Loaded}
+use Rattle.run_loads.specs.Faults.{load_fault_number}
+use Rattle.run_loads.specs.Loaded.{lists_loaded}
+use Rattle.run_loads.specs.Taking.{fault_of}
+use Rattle.run_loads.specs.declared.fault.LoadFault.{LoadFault}
+use Rattle.run_loads.specs.declared.fault.LoadFault.TheVariants as faults
+use Rattle.run_loads.specs.declared.table.LoadTable.{LoadTable}
+use Rattle.run_state.specs.declared.Lists.{Lists}
+use Rattle.run_tables.specs.declared.nodes.NodeList.{NodeList}
 
--- the arrays that a load writes
-pub record Arrays : Type 0 where
-  pub flows : List Float
-  pub heads : List Float
-  pub demands : List Float
-
--- with the load of these words taken
-abbrev pub taking : List ℕ → ℕ → List ℕ → ℕ → List ℕ → List ℕ → List ℕ → List ℕ → ℕ → Arrays → Arrays
-taking words links junctions m starts ends marks tanks n a =
-    let flows = flows_taken words links a.flows in
-    record {
-      flows = flows;
-      heads = heads_taken words junctions links m a.heads;
-      demands = inflows_summed starts ends marks flows links (tanks_emptied tanks n a.demands);
-    }
+-- how many numbers a load has, by its table
+abbrev pub values_by : LoadTable → ℕ
+values_by t = t.links + t.junctions.count
 
 -- a load of so many numbers has so many words
 abbrev pub words_for : ℕ → ℕ
 words_for count = 1 + 2 * count
 
--- a load with a fault leaves the arrays; one without is taken
-pub data Judged (words : List ℕ) (count links : ℕ) (junctions : List ℕ) (m : ℕ) (starts ends marks tanks : List ℕ) (n : ℕ) (before : Arrays) : Arrays → ℕ → Type 0 where
-  faulty : (fault : ℕ) → fault ≡ fault_of count words → (fault ≡ 0 → ⊥) → Judged words count links junctions m starts ends marks tanks n before before fault
-  fine : fault_of count words ≡ 0 → (after : Arrays) → after ≡ taking words links junctions m starts ends marks tanks n before
-      → Judged words count links junctions m starts ends marks tanks n before after 0
+-- the words of a load at the front of some bytes
+abbrev pub words_left : LoadTable → List ℕ → List ℕ
+words_left t bytes = first_words (words_for (values_by t)) bytes
 
--- no byte is left; a load cut by the end; one that is whole
-pub data LoadedAs (bytes : List ℕ) (count links : ℕ) (junctions : List ℕ) (m : ℕ) (starts ends marks tanks : List ℕ) (n : ℕ) (before : Arrays) : Arrays → Loaded → Type 0 where
-  none : length bytes ≡ 0 → LoadedAs bytes count links junctions m starts ends marks tanks n before before (record { fault = 0; taken = 0 })
-  cut : (length bytes ≡ 0 → ⊥) → length bytes < words_for count * 4
-      → LoadedAs bytes count links junctions m starts ends marks tanks n before before (record { fault = 7; taken = 0 })
-  whole : (length bytes ≡ 0 → ⊥) → words_for count * 4 ≤ length bytes → (after : Arrays) (fault taken : ℕ)
-      → Judged (first_words (words_for count) bytes) count links junctions m starts ends marks tanks n before after fault → taken ≡ cond (eqb fault 0) (words_for count * 4) 0
-      → LoadedAs bytes count links junctions m starts ends marks tanks n before after (record { fault = fault; taken = taken })
+-- no byte is left; a load cut by the end; one with a fault; one that is taken, with its bytes
+pub data LoadedAs (bytes : List ℕ) (t : LoadTable) (tanks : NodeList) (before : Lists) : Lists → Result ℕ LoadFault → Type 0 where
+  none : length bytes ≡ 0 → LoadedAs bytes t tanks before before (Ok 0)
+  cut : (length bytes ≡ 0 → ⊥) → length bytes < words_for (values_by t) * 4 → LoadedAs bytes t tanks before before (Err faults.Shape)
+  faulty : (length bytes ≡ 0 → ⊥) → words_for (values_by t) * 4 ≤ length bytes
+      → (f : LoadFault) → load_fault_number f ≡ fault_of (values_by t) (words_left t bytes) → LoadedAs bytes t tanks before before (Err f)
+  whole : (length bytes ≡ 0 → ⊥) → words_for (values_by t) * 4 ≤ length bytes → 0 ≡ fault_of (values_by t) (words_left t bytes)
+      → (after : Lists) → after ≡ lists_loaded (words_left t bytes) t tanks before → (size : ℕ) → size ≡ words_for (values_by t) * 4
+      → LoadedAs bytes t tanks before after (Ok size)

@@ -9,6 +9,7 @@ use native.Mathlib.Omega.{arith}
 use borrow.Author.Tests.{lt-ltb, le-ltb, eq-eqb, ne_eqb}
 use lib.ListN.{length, take, drop, length-append, get_or-append}
 use lib.Seq.{drop_at}
+use Rattle.std.specs.Prelude.{None}
 use Rattle.listing.specs.Listing.{Line, header, text_of, refused_line}
 use Rattle.listing.proofs.Listing.{text_append}
 use Rattle.listing.proofs.Pasting.{pasted_take}
@@ -17,7 +18,8 @@ use Rattle.words.proofs.Filling.{words_more}
 use Rattle.model.specs.declared.project.Project.{Project}
 use Rattle.model.specs.declared.state.State.{State}
 use Rattle.judge.specs.Judgement.{in_order}
-use Rattle.image.specs.Image.{decode}
+use Rattle.image.specs.Image.{decode, number_of}
+use Rattle.image.proofs.Turns.{none_of}
 use Rattle.image_accepted.proofs.Accepted.{accepted}
 use Rattle.calls.specs.Calls.{start}
 use Rattle.calls_sound.proofs.Theorem.{state_of, start_in_order}
@@ -161,17 +163,19 @@ module _ (head image rest : List ℕ) (e : length head ≡ 4) (z : image_words h
       ap (drop (4 + image_words head * 4)) (sym (append_assoc head image rest)) ∙ drop_at (head ++ image) rest (4 + image_words head * 4) size in
       rw (n, ne_eqb (image_words head) 0 z, le-ltb (length input) (4 + image_words head * 4) long, after-head, after-image, words_more (image_words head) image rest words)
 
-  pub image_refused : ((decode (first_words (image_words head) image)).fault ≡ 0 → ⊥)
-      → printed (head ++ (image ++ rest)) ≡ refused_line (decode (first_words (image_words head) image)).fault
+  pub image_refused : ((decode (first_words (image_words head) image)).fault ≡ None → ⊥)
+      → printed (head ++ (image ++ rest)) ≡ refused_line (number_of (decode (first_words (image_words head) image)).fault)
   unfolding opened
-  image_refused f = image_whole ∙ rw (ne_eqb (decode (first_words (image_words head) image)).fault 0 f)
+  image_refused f =
+      let fault = (decode (first_words (image_words head) image)).fault in
+      image_whole ∙ rw (ne_eqb (number_of fault) 0 (λ z. f (none_of fault z)))
 
   -- the header and the texts of the chunks from the start on
-  pub image_accepted : (decode (first_words (image_words head) image)).fault ≡ 0 → {text : List ℕ}
+  pub image_accepted : (decode (first_words (image_words head) image)).fault ≡ None → {text : List ℕ}
       → Chunked (decode (first_words (image_words head) image)).project (start (decode (first_words (image_words head) image)).project).state rest text
       → printed (head ++ (image ++ rest)) ≡ header ++ text
   unfolding opened text_of
   image_accepted f {text} c =
       let d = decode (first_words (image_words head) image) in
       let o = start_in_order d.project (start_accepted d.project (accepted (first_words (image_words head) image) f)) in
-      image_whole ∙ rw (eq-eqb d.fault 0 f) (ap (λ (t : List ℕ). header ++ t) (chunks_join d.project c o []))
+      image_whole ∙ rw f (ap (λ (t : List ℕ). header ++ t) (chunks_join d.project c o []))

@@ -4,7 +4,7 @@ use Rattle.std.specs.Prelude.{ℕ, suc, ◌+◌, ◌*◌, false, cond, List, [],
 use Rattle.listing.specs.Listing.{Line, refused_line, listing}
 use Rattle.words.specs.Words.{first_words}
 use Rattle.model.specs.declared.project.Project.{Project}
-use Rattle.image.specs.Image.{decode}
+use Rattle.image.specs.Image.{decode, number_of}
 use Rattle.image.specs.declared.walk.Decoded.{Decoded}
 use Rattle.calls.specs.Calls.{start}
 use Rattle.driver_image.specs.Opening.{image_words}
@@ -20,7 +20,7 @@ started p bytes = record { state = (start p).state; left = bytes; lines = []; ov
 
 -- "alone for an image, after the header and steps so far for a load"
 unfoldable pub opened : Decoded → List ℕ → List ℕ
-opened d rest = cond (eqb d.fault 0) (listing (lines_from d.project (started d.project rest))) (refused_line d.fault)
+opened d rest = cond (eqb (number_of d.fault) 0) (listing (lines_from d.project (started d.project rest))) (refused_line (number_of d.fault))
 
 -- all that the program prints for an input. "A count of 0 or over 16,384, or fewer bytes than it needs, is number 1"
 unfoldable pub printed : List ℕ → List ℕ

@@ -11,18 +11,16 @@ use Rattle.clock.specs.Steps.{clock_time, step_length, advanced}
 use Rattle.clock.specs.Triggers.{length_at}
 use Rattle.clock.specs.declared.hand.Clock.{Clock}
 use Rattle.clock.proofs.Lengths.{length_positive}
-use Rattle.model.specs.declared.options.Options.{Options}
 use Rattle.model.specs.declared.project.Project.{Project}
-use Rattle.model.specs.declared.state.LinkState.{LinkState}
 use Rattle.model.specs.declared.state.State.{State}
 use Rattle.tables.specs.Fit.{TablesFit}
-use Rattle.run_state.specs.Lists.{Links, Lists, head_of, demand_of, demand_flow_of, flow_of, status_of, setting_of, heads_of, demands_of, statuses_of, links_of, lists_of}
-use Rattle.run_state.proofs.Apart.{links_made, lists_made}
+use Rattle.run_state.specs.Lists.{head_of, demand_of, demand_flow_of, heads_of, demands_of, links_of, links_listed, lists_of}
+use Rattle.run_state.specs.declared.Links.{Links}
+use Rattle.run_state.specs.declared.Lists.{Lists}
+use Rattle.run_state.proofs.Apart.{lists_made}
 use Rattle.run_controls.specs.Apply.{links_after}
 use Rattle.run_candidates.specs.Next.{next_time, next_clock, next_level}
-use Rattle.run_periods.specs.Applying.{Written, Inputs, patterns_applied}
-use Rattle.run_closing.specs.Closing.{links_closed, demands_summed}
-use Rattle.run_tanks.specs.Moving.{tank_time_of, heads_after}
+use Rattle.run_periods.specs.Applying.{Written, inputs_of, written_in, patterns_applied}
 use Rattle.tank_links.proofs.Judging.{stands}
 use Rattle.state.specs.Controls.{apply_controls}
 use Rattle.state.specs.Patterns.{apply_patterns}
@@ -31,7 +29,6 @@ use Rattle.state.proofs.Controlled.{controls_keep_nodes, controls_keep_clock, ap
 use Rattle.state.proofs.InForce.{InForce, apply_patterns_is, moving_force, nodes_force}
 use Rattle.state.proofs.Moved.{move_tanks_is, moved_demands, moved_demand_flows, moved_links}
 use Rattle.state.proofs.Patterned.{period_of, InputsLaid, Holds, patterned_links, patterned_clock}
-use Rattle.solver.specs.ByTable.{lists_closed}
 use Rattle.solver.specs.Closing.{update_tank_links}
 use Rattle.solver.proofs.ByTable.{lists_closed_is}
 use Rattle.solver.proofs.InForce.{closing_force}
@@ -41,48 +38,7 @@ use Rattle.simulation.proofs.ControlTime.{control_time_held}
 use Rattle.simulation.proofs.TankTime.{tank_time_held}
 use Rattle.driver_tables.specs.Laid.{Laid}
 use Rattle.driver_tables.specs.declared.Tables.{Tables}
-
--- the patterns' inputs, of the tables
-abbrev pub inputs_of : Tables → List Float → Inputs
-inputs_of t multipliers = record {
-  lengths = t.lengths;
-  multipliers = multipliers;
-  start = t.options.pattern_start;
-  timestep = t.options.pattern;
-  counts = t.demands.counts;
-  bases = t.demands.bases;
-  places = t.demands.patterns;
-  scale = t.options.demand_multiplier;
-  pda = t.options.pda;
-  n = t.nodes;
-  reservoirs = t.heads.nodes;
-  elevations = t.heads.elevations;
-  patterns = t.heads.patterns;
-  patterned = t.heads.count;
-}
-
--- what the passes after the patterns are handed
-abbrev pub controlled : Tables → List Float → ℕ → Links → Links
-controlled t heads time links =
-    links_after t.controls.words t.controls.numbers t.controls.count heads time (clock_time t.times.start_clock time) links
-
-abbrev pub closed : Tables → List Float → List Float → List ℕ → List ℕ
-closed t heads flows statuses =
-    links_closed t.tanks.nodes t.tanks.numbers t.tanks.overflows t.groups.begins t.groups.middles t.groups.links t.tanks.count heads flows statuses
-
-abbrev pub summed : Tables → List Float → List Float → List Float
-summed t flows demands = demands_summed t.tanks.nodes t.groups.begins t.groups.middles t.groups.links t.tanks.count flows demands
-
-abbrev pub length_by : Tables → List Float → List Float → ℕ → ℕ
-length_by t heads demands time =
-    step_length t.times (tank_time_of t.tanks.nodes t.tanks.numbers t.tanks.overflows t.tanks.count heads demands)
-    (next_clock t.clock_calls.seconds t.clock_calls.count (clock_time t.times.start_clock time)
-    (next_time t.time_calls.seconds t.time_calls.count time
-    (next_level t.levels.tanks t.levels.targets t.levels.count t.tanks.nodes t.tanks.numbers t.tanks.overflows heads demands MAX)))
-    time
-
-abbrev pub moved_on : Tables → List Float → ℕ → List Float → List Float
-moved_on t demands seconds heads = heads_after t.tanks.nodes t.tanks.numbers t.tanks.overflows t.tanks.count demands seconds heads
+use Rattle.driver_turn.specs.Steps.{closed, length_by, stepped}
 
 -- the start of the clock is the options'
 start_is : (p : Project) → (times_of p).start_clock ≡ p.options.start_clock
@@ -99,42 +55,43 @@ module _ {p : Project} {t : Tables} (laid : Laid p t) (fit : TablesFit p) where
 
   -- ---- patterns, then controls
   module _ {multipliers : List Float} (same : multipliers ≡ p.multipliers) (whole : length multipliers ≡ 5376) where
-    inputs_laid : InputsLaid p (inputs_of t multipliers)
+    inputs_laid : InputsLaid p (inputs_of t.patterns multipliers)
     inputs_laid = record {
-      lengths = laid.lengths;
+      lengths = laid.patterns.lengths_laid;
       multipliers = same;
       long = ap (λ (ms : List Float). length ms) (sym same) ∙ whole;
-      start = ap (λ (o : Options). o.pattern_start) laid.options;
-      timestep = ap (λ (o : Options). o.pattern) laid.options;
-      scale = ap (λ (o : Options). o.demand_multiplier) laid.options;
-      pda = ap (λ (o : Options). o.pda) laid.options;
-      n = laid.nodes;
-      demands = laid.demands;
-      heads = laid.heads;
+      start = laid.patterns.start;
+      timestep = laid.patterns.timestep;
+      scale = laid.patterns.scale;
+      pda = laid.patterns.pda;
+      n = laid.patterns.count;
+      demands = laid.patterns.demands;
+      heads = laid.patterns.heads;
     }
 
     pub patterned_lists :
-        (s : State) (a : Lists) (table : List Float) {w : Written} (in-force : ℕ) → a ≡ lists_of s → length table ≡ 33 → p.counts.nodes ≤ length s.nodes
+        (s : State) (a b : Lists) (table table' : List Float) (in-force : ℕ) → a ≡ lists_of s → length table ≡ 33 → p.counts.nodes ≤ length s.nodes
         → (period_of p s ≡ in-force → InForce p (period_of p s) s)
-        → patterns_applied (inputs_of t multipliers) t.tanks.nodes t.tanks.count in-force a.clock.instant (record { table = table; heads = a.heads; demands = a.demands; flows = a.demand_flows }) ≡ w
-        → Holds (apply_patterns p s) w
-    patterned_lists s a table {w} in-force e long room force q =
-        subst (λ (x : Written). Holds (apply_patterns p s) x) (ap (λ (k : Clock). patterns_applied (inputs_of t multipliers) t.tanks.nodes t.tanks.count in-force k.instant (record { table = table; heads = a.heads; demands = a.demands; flows = a.demand_flows })) (sym (ap (λ (x : Lists). x.clock) e)) ∙ q)
-        (apply_patterns_is s (record { table = table; heads = a.heads; demands = a.demands; flows = a.demand_flows }) inputs_laid laid.tanks
+        → patterns_applied (inputs_of t.patterns multipliers) t.tanks.at.nodes t.tanks.at.count in-force a.clock.instant (written_in table a) ≡ written_in table' b
+        → Holds (apply_patterns p s) (written_in table' b)
+    patterned_lists s a b table table' in-force e long room force q =
+        subst (λ (x : Written). Holds (apply_patterns p s) x) (ap (λ (k : Clock). patterns_applied (inputs_of t.patterns multipliers) t.tanks.at.nodes t.tanks.at.count in-force k.instant (written_in table a)) (sym (ap (λ (x : Lists). x.clock) e)) ∙ q)
+        (apply_patterns_is s (written_in table a) inputs_laid laid.tanks
         (record { head = sym (ap (λ (x : Lists). x.heads) e); demand = sym (ap (λ (x : Lists). x.demands) e); demand_flow = sym (ap (λ (x : Lists). x.demand_flows) e) })
         long room in-force force)
 
   pub controlled_lists :
-      (s : State) (a : Lists) (w : Written) {l : Links} → a ≡ lists_of s → Holds (apply_patterns p s) w
-      → controlled t w.heads a.clock.instant a.links ≡ l
-      → record { heads = w.heads; demands = w.demands; demand_flows = w.flows; links = l; clock = a.clock } ≡ lists_of (apply_controls p (apply_patterns p s))
-  controlled_lists s a w {l} e h q =
+      (s : State) (a b : Lists) (table' : List Float) {l : Links} → a ≡ lists_of s → Holds (apply_patterns p s) (written_in table' b)
+      → b.links ≡ a.links → b.clock ≡ a.clock
+      → l ≡ links_after t.controls.words t.controls.numbers t.controls.count b.heads a.clock.instant (clock_time t.times.start_clock a.clock.instant) b.links
+      → record { heads = b.heads; demands = b.demands; demand_flows = b.demand_flows; links = l; clock = b.clock } ≡ lists_of (apply_controls p (apply_patterns p s))
+  controlled_lists s a b table' {l} e h stay same q =
       lists_made
       (sym h.head ∙ ap (map head_of) (sym nodes))
       (sym h.demand ∙ ap (map demand_of) (sym nodes))
       (sym h.demand_flow ∙ ap (map demand_flow_of) (sym nodes))
-      (sym q ∙ rw (← h.head, hour_is a.clock u clock, clock, links) (apply_controls_is p laid.controls u))
-      (clock ∙ sym (controls_keep_clock p u))
+      (q ∙ rw (← h.head, hour_is a.clock u clock, clock, stay, links) (apply_controls_is p laid.controls u))
+      (same ∙ clock ∙ sym (controls_keep_clock p u))
     where
       u : State
       u = apply_patterns p s
@@ -146,50 +103,42 @@ module _ {p : Project} {t : Tables} (laid : Laid p t) (fit : TablesFit p) where
       clock = ap (λ (x : Lists). x.clock) e ∙ sym (patterned_clock p s)
 
       links : a.links ≡ links_of u
-      links = ap (λ (x : Lists). x.links) e ∙ ap (λ (ls : List LinkState). record { flows = map flow_of ls; statuses = map status_of ls; settings = map setting_of ls }) (sym (patterned_links p s))
+      links = ap (λ (x : Lists). x.links) e ∙ ap links_listed (sym (patterned_links p s))
 
   -- ---- closing and the step
-  pub record Went (s : State) (a : Lists) (statuses : List ℕ) (demands heads : List Float) (length_is : ℕ) : Type 0 where
-    pub length : (next_hydraulic_timestep p (update_tank_links p s)).length ≡ length_is
+  pub record Went (s : State) (a : Lists) (seconds : ℕ) : Type 0 where
+    pub length : (next_hydraulic_timestep p (update_tank_links p s)).length ≡ seconds
     pub clock : (update_tank_links p s).clock ≡ a.clock
-    pub held :
-        record { heads = heads; demands = demands; demand_flows = a.demand_flows; links = record { flows = a.links.flows; statuses = statuses; settings = a.links.settings }; clock = advanced a.clock length_is }
-        ≡ lists_of (next_hydraulic_timestep p (update_tank_links p s)).state
+    pub held : stepped t seconds a ≡ lists_of (next_hydraulic_timestep p (update_tank_links p s)).state
 
   module _ (s : State) (a : Lists) (e : a ≡ lists_of s) (long : length s.links ≡ 384) (before : s.clock.instant < p.options.duration)
-      {statuses : List ℕ} {demands heads : List Float} {seconds : ℕ}
-      (closes : statuses ≡ closed t a.heads a.links.flows a.links.statuses)
-      (sums : demands ≡ summed t a.links.flows a.demands)
-      (lasts : seconds ≡ length_by t a.heads demands a.clock.instant)
-      (moves : heads ≡ moved_on t demands seconds a.heads) where
+      {seconds : ℕ} (lasts : seconds ≡ length_by t (closed t a)) where
     abbrev u : State
     u = update_tank_links p s
 
-    all : lists_closed t.tanks.nodes t.tanks.numbers t.tanks.overflows t.groups.begins t.groups.middles t.groups.links t.tanks.count s ≡ lists_of u
+    all : closed t (lists_of s) ≡ lists_of u
     all = lists_closed_is fit laid.tanks (stands p t.groups.begins t.groups.middles t.groups.links laid.groups) s long
 
+    closes : closed t a ≡ lists_of u
+    closes = ap (closed t) e ∙ all
+
     heads_are : a.heads ≡ heads_of u
-    heads_are = ap (λ (x : Lists). x.heads) e ∙ ap (λ (x : Lists). x.heads) all
+    heads_are = ap (λ (x : Lists). x.heads) closes
 
-    demands_are : demands ≡ demands_of u
-    demands_are = sums ∙ rw (ap (λ (x : Lists). x.links.flows) e, ap (λ (x : Lists). x.demands) e) (ap (λ (x : Lists). x.demands) all)
-
-    statuses_are : statuses ≡ statuses_of u
-    statuses_are =
-        closes
-        ∙ rw (ap (λ (x : Lists). x.heads) e, ap (λ (x : Lists). x.links.flows) e, ap (λ (x : Lists). x.links.statuses) e) (ap (λ (x : Lists). x.links.statuses) all)
+    demands_are : (closed t a).demands ≡ demands_of u
+    demands_are = ap (λ (x : Lists). x.demands) closes
 
     clock_is : a.clock ≡ u.clock
-    clock_is = ap (λ (x : Lists). x.clock) e ∙ ap (λ (x : Lists). x.clock) all
+    clock_is = ap (λ (x : Lists). x.clock) closes
 
     length_is : length_of p u ≡ seconds
     unfolding length_of length_at moment_of
     length_is =
         sym (lasts ∙ rw laid.times
         (ap (λ (x : ℕ). step_length (times_of p) x
-        (next_clock t.clock_calls.seconds t.clock_calls.count (clock_time (times_of p).start_clock a.clock.instant)
-        (next_time t.time_calls.seconds t.time_calls.count a.clock.instant
-        (next_level t.levels.tanks t.levels.targets t.levels.count t.tanks.nodes t.tanks.numbers t.tanks.overflows a.heads demands MAX)))
+        (next_clock t.calls.clocks.seconds t.calls.clocks.count (clock_time (times_of p).start_clock a.clock.instant)
+        (next_time t.calls.times.seconds t.calls.times.count a.clock.instant
+        (next_level t.calls.levels.tanks t.calls.levels.targets t.calls.levels.count t.tanks.at.nodes t.tanks.numbers t.tanks.overflows a.heads (closed t a).demands MAX)))
         a.clock.instant) (tank_time_held p laid.tanks u heads_are demands_are refl)
         ∙ rw clock_is
         (ap (λ (x : ℕ). step_length (times_of p) (moment_of p u).tank x u.clock.instant)
@@ -201,18 +150,17 @@ module _ {p : Project} {t : Tables} (laid : Laid p t) (fit : TablesFit p) where
         let m = length_positive (times_of p) (triggers_of p) (moment_of p u) u.clock.instant (accepted_times p fit) (omega (arith, before, duration_is p, ap (λ (x : Lists). x.clock.instant) e, ap (λ (k : Clock). k.instant) clock_is)) in
         omega (arith, m, length_is)
 
-    pub went : Went s a statuses demands heads seconds
+    pub went : Went s a seconds
     unfolding next_hydraulic_timestep moved_by
     went = record {
       length = length_is;
       clock = sym clock_is;
       held = rw (length_is, ne_eqb seconds 0 (λ z. omega (arith, positive, z)))
           (lists_made
-          (moves ∙ rw (demands_are, heads_are) (move_tanks_is p laid.tanks u seconds))
+          (rw (demands_are, heads_are) (move_tanks_is p laid.tanks u seconds))
           (demands_are ∙ sym (moved_demands p u seconds))
-          (ap (λ (x : Lists). x.demand_flows) e ∙ ap (λ (x : Lists). x.demand_flows) all ∙ sym (moved_demand_flows p u seconds))
-          (links_made (ap (λ (x : Lists). x.links.flows) e ∙ ap (λ (x : Lists). x.links.flows) all) statuses_are (ap (λ (x : Lists). x.links.settings) e ∙ ap (λ (x : Lists). x.links.settings) all)
-          ∙ ap (λ (ls : List LinkState). record { flows = map flow_of ls; statuses = map status_of ls; settings = map setting_of ls }) (sym (moved_links p u seconds)))
+          (ap (λ (x : Lists). x.demand_flows) closes ∙ sym (moved_demand_flows p u seconds))
+          (ap (λ (x : Lists). x.links) closes ∙ ap links_listed (sym (moved_links p u seconds)))
           (ap (λ (k : Clock). advanced k seconds) clock_is));
     }
 

@@ -1,5 +1,6 @@
 -- A whole turn over the arrays of a run, before the duration: the definition's turn, and the state that the arrays hold after it. Assumes nothing.
 use Prim.Native.Nat.{ℕ, ◌*◌, ◌≤◌, ◌<◌}
+use Rattle.std.specs.Prelude.{Result, Ok, Err}
 use mathlib.Core.Path.{◌≡◌, refl, sym, ap, ◌∙◌, subst}
 use mathlib.Core.Bool.{Bool, true, false, cond}
 use mathlib.Core.List.{List}
@@ -8,7 +9,7 @@ use lib.Dec.{eqb}
 use lib.Ieee.{Float, nan}
 use lib.ListN.{length, length-set, get_or, take, drop}
 use Rattle.number.specs.Constants.{decimal}
-use Rattle.clock.specs.Steps.{advanced}
+use Rattle.clock.specs.Steps.{clock_time}
 use Rattle.clock.specs.declared.hand.Clock.{Clock}
 use Rattle.listing.specs.Listing.{Line}
 use Rattle.model.specs.Loops.{through}
@@ -18,9 +19,14 @@ use Rattle.model.specs.declared.state.State.{State}
 use Rattle.model.proofs.Pointwise.{kept_length}
 use Rattle.judge.specs.Judgement.{in_order}
 use Rattle.tables.specs.Fit.{TablesFit}
-use Rattle.run_state.specs.Lists.{Links, Lists, lists_of}
+use Rattle.run_state.specs.Lists.{lists_of}
+use Rattle.run_state.specs.declared.Links.{Links}
+use Rattle.run_state.specs.declared.Lists.{Lists}
+use Rattle.run_controls.specs.Apply.{links_after}
+use Rattle.run_loads.specs.Faults.{load_fault_number}
+use Rattle.run_loads.specs.declared.fault.LoadFault.{LoadFault}
 use Rattle.pattern_view.specs.View.{multiplier_in_force}
-use Rattle.run_periods.specs.Applying.{Written, Inputs, filled, emptied, patterns_applied}
+use Rattle.run_periods.specs.Applying.{Written, Inputs, inputs_of, written_in, filled, emptied, patterns_applied}
 use Rattle.run_patterns.specs.Filling.{multiplier_put, multipliers_filled}
 use Rattle.state.specs.Controls.{apply_controls}
 use Rattle.state.specs.Patterns.{apply_patterns}
@@ -30,8 +36,7 @@ use Rattle.state.proofs.Patterned.{period_of, patterned_clock}
 use Rattle.solver.specs.Closing.{update_tank_links}
 use Rattle.simulation.specs.Steps.{next_hydraulic_timestep}
 use Rattle.calls_sound.proofs.Step.{step_in_order}
-use Rattle.driver_load.specs.Left.{Arrays, LoadedAs}
-use Rattle.driver_load.specs.declared.Loaded.{Loaded}
+use Rattle.driver_load.specs.Left.{LoadedAs}
 use Rattle.driver_load.proofs.Inner.{fit}
 use Rattle.driver_tables.specs.Laid.{Laid}
 use Rattle.driver_tables.specs.declared.Tables.{Tables}
@@ -39,8 +44,9 @@ use Rattle.driver_turn.specs.Turns.{prepared, step_turn, input_turn, turn}
 use Rattle.driver_turn.proofs.Inner.{step_state_inner, prepared_inner, prepared_in_order}
 use Rattle.driver_turn.proofs.Cases.{turn_goes, closed_in_order, step_turn_is}
 use Rattle.driver_turn.proofs.Shape.{Alike, alike, patterns_alike, controls_alike, closing_alike, step_alike}
-use Rattle.driver_turn.proofs.Arrays.{inputs_of, controlled, closed, summed, length_by, moved_on, Went, patterned_lists, controlled_lists, went, went_force}
-use Rattle.driver_turn.proofs.Loads.{values_by, Looked, with_arrays, looked}
+use Rattle.driver_turn.specs.Steps.{closed, length_by, stepped}
+use Rattle.driver_turn.proofs.Arrays.{Went, patterned_lists, controlled_lists, went, went_force}
+use Rattle.driver_turn.proofs.Loads.{Looked, looked}
 
 -- the table of multipliers stays as long as it was
 filled_long : (t : Inputs) (time : ℕ) (w : Written) → length (filled t time w).table ≡ length w.table
@@ -65,20 +71,6 @@ pub record Meets (p : Project) (s : State) (a : Lists) (in-force : ℕ) : Type 0
   pub links : length s.links ≡ 384
   pub force : period_of p s ≡ in-force → InForce p (period_of p s) s
 
--- the arrays after patterns and controls
-abbrev pub prepared_arrays : Lists → Written → Links → Lists
-prepared_arrays a w l = record { heads = w.heads; demands = w.demands; demand_flows = w.flows; links = l; clock = a.clock }
-
--- and after the step
-abbrev pub stepped_arrays : Lists → List ℕ → List Float → List Float → ℕ → Lists
-stepped_arrays a statuses demands heads seconds = record {
-  heads = heads;
-  demands = demands;
-  demand_flows = a.demand_flows;
-  links = record { flows = a.links.flows; statuses = statuses; settings = a.links.settings };
-  clock = advanced a.clock seconds;
-}
-
 -- the turn that was made, and the state that the arrays hold after it
 pub record MadeBy (p : Project) (s : State) (bytes : List ℕ) (a : Lists) (in-force : ℕ) (taken : ℕ) (line : Line) (last : Bool) : Type 0 where
   pub next : State
@@ -87,20 +79,25 @@ pub record MadeBy (p : Project) (s : State) (bytes : List ℕ) (a : Lists) (in-f
 
 module _ {p : Project} {t : Tables} (laid : Laid p t) {multipliers : List Float} (same : multipliers ≡ p.multipliers) (whole : length multipliers ≡ 5376)
     (s : State) (a : Lists) (table : List Float) (long : length table ≡ 33) (in-force : ℕ) (m : Meets p s a in-force) (before : s.clock.instant < p.options.duration)
-    {w : Written} {l : Links}
-    (patterns : patterns_applied (inputs_of t multipliers) t.tanks.nodes t.tanks.count in-force a.clock.instant (record { table = table; heads = a.heads; demands = a.demands; flows = a.demand_flows }) ≡ w)
-    (controls : controlled t w.heads a.clock.instant a.links ≡ l) (bytes : List ℕ) where
+    {b : Lists} {table' : List Float} {l : Links}
+    (patterns : patterns_applied (inputs_of t.patterns multipliers) t.tanks.at.nodes t.tanks.at.count in-force a.clock.instant (written_in table a) ≡ written_in table' b)
+    (stay : b.links ≡ a.links) (still : b.clock ≡ a.clock)
+    (controls : l ≡ links_after t.controls.words t.controls.numbers t.controls.count b.heads a.clock.instant (clock_time t.times.start_clock a.clock.instant) b.links) (bytes : List ℕ) where
   fits : TablesFit p
   fits = fit p s m.ordered
 
   abbrev ready : State
   ready = apply_controls p (apply_patterns p s)
 
+  -- the lists after patterns and controls
+  abbrev handed : Lists
+  handed = record { heads = b.heads; demands = b.demands; demand_flows = b.demand_flows; links = l; clock = b.clock }
+
   room : p.counts.nodes ≤ length s.nodes
   room = omega (arith, fits.few.nodes, m.nodes)
 
-  ready_held : prepared_arrays a w l ≡ lists_of ready
-  ready_held = controlled_lists laid fits s a w m.held (patterned_lists laid fits same whole s a table in-force m.held long room m.force patterns) controls
+  ready_held : handed ≡ lists_of ready
+  ready_held = controlled_lists laid fits s a b table' m.held (patterned_lists laid fits same whole s a b table table' in-force m.held long room m.force patterns) stay still controls
 
   ready_is : prepared p s ≡ ready
   ready_is = prepared_inner p s m.ordered
@@ -120,20 +117,18 @@ module _ {p : Project} {t : Tables} (laid : Laid p t) {multipliers : List Float}
   goes : turn p s bytes ≡ input_turn p ready bytes
   goes = turn_goes p s bytes before (sym ready_is)
 
-  module _ {b : Arrays} {r : Loaded}
-      (loaded : LoadedAs bytes (values_by t) t.links t.junctions.nodes t.junctions.count t.ends.starts t.ends.ends t.marks t.tanks.nodes t.tanks.count
-      (record { flows = l.flows; heads = w.heads; demands = w.demands }) b r) where
-    k : Looked p ready bytes r (with_arrays (prepared_arrays a w l) b)
-    k = looked laid fits ready ready_ordered bytes (prepared_arrays a w l) ready_held (ready_alike.nodes ∙ m.nodes) loaded
+  module _ {d : Lists} {r : Result ℕ LoadFault} (loaded : LoadedAs bytes t.load t.tanks.at handed d r) where
+    k : Looked p ready bytes r d
+    k = looked laid fits ready ready_ordered bytes handed ready_held (ready_alike.nodes ∙ m.nodes) loaded
 
     next_force : InForce p (period_of p s) k.next
     next_force = k.force (period_of p s) ready_force
 
     -- the run ends at a fault
-    pub made_refused : (r.fault ≡ 0 → ⊥) → {period : ℕ} → period ≡ period_of p s → MadeBy p s bytes (with_arrays (prepared_arrays a w l) b) period 0 (Line.refused r.fault) true
-    made_refused z {period} e = record {
+    pub made_refused : (f : LoadFault) → r ≡ Err f → {period : ℕ} → period ≡ period_of p s → MadeBy p s bytes d period 0 (Line.refused (load_fault_number f)) true
+    made_refused f z {period} e = record {
       next = k.next;
-      turned = goes ∙ k.ends z;
+      turned = goes ∙ k.ends f z;
       met = record {
         held = k.held;
         ordered = k.ordered;
@@ -143,11 +138,7 @@ module _ {p : Project} {t : Tables} (laid : Laid p t) {multipliers : List Float}
       };
     }
 
-    module _ (z : r.fault ≡ 0) {statuses : List ℕ} {demands heads : List Float} {seconds : ℕ}
-        (closes : statuses ≡ closed t b.heads b.flows l.statuses)
-        (sums : demands ≡ summed t b.flows b.demands)
-        (lasts : seconds ≡ length_by t b.heads demands a.clock.instant)
-        (moves : heads ≡ moved_on t demands seconds b.heads) where
+    module _ (taken : ℕ) (z : r ≡ Ok taken) {seconds : ℕ} (lasts : seconds ≡ length_by t (closed t d)) where
       abbrev u : State
       u = update_tank_links p k.next
 
@@ -163,29 +154,31 @@ module _ {p : Project} {t : Tables} (laid : Laid p t) {multipliers : List Float}
       early : k.next.clock.instant < p.options.duration
       early = omega (arith, before, ap (λ (c : Clock). c.instant) clock_is)
 
-      done : Went laid fits k.next (with_arrays (prepared_arrays a w l) b) statuses demands heads seconds
-      done = went laid fits k.next (with_arrays (prepared_arrays a w l) b) k.held links_long early closes sums lasts moves
+      done : Went laid fits k.next d seconds
+      done = went laid fits k.next d k.held links_long early lasts
 
-      step_is : step_turn p k.next r.taken ≡ record { state = after; taken = r.taken; line = Line.step a.clock.instant seconds; last = false }
+      instant_is : d.clock ≡ a.clock
+      instant_is = ap (λ (x : Lists). x.clock) k.held ∙ clock_is ∙ sym (ap (λ (x : Lists). x.clock) m.held)
+
+      step_is : step_turn p k.next taken ≡ record { state = after; taken = taken; line = Line.step a.clock.instant seconds; last = false }
       step_is =
-          step_turn_is p k.next r.taken k.ordered refl {t = next_hydraulic_timestep p u} refl
-          ∙ ap (λ (c : Clock). record { state = after; taken = r.taken; line = Line.step c.instant (next_hydraulic_timestep p u).length; last = false }) done.clock
-          ∙ ap (λ (n : ℕ). record { state = after; taken = r.taken; line = Line.step a.clock.instant n; last = false }) done.length
+          step_turn_is p k.next taken k.ordered refl {t = next_hydraulic_timestep p u} refl
+          ∙ ap (λ (c : Clock). record { state = after; taken = taken; line = Line.step c.instant (next_hydraulic_timestep p u).length; last = false }) (done.clock ∙ instant_is)
+          ∙ ap (λ (n : ℕ). record { state = after; taken = taken; line = Line.step a.clock.instant n; last = false }) done.length
 
       after_alike : Alike after s
       after_alike = alike (step_alike p u) (alike (closing_alike p k.next) (alike k.alike ready_alike))
 
-      pub made_step : {period : ℕ} → period ≡ period_of p s
-          → MadeBy p s bytes (stepped_arrays (with_arrays (prepared_arrays a w l) b) statuses demands heads seconds) period r.taken (Line.step a.clock.instant seconds) false
+      pub made_step : {period : ℕ} → period ≡ period_of p s → MadeBy p s bytes (stepped t seconds d) period taken (Line.step a.clock.instant seconds) false
       made_step {period} e = record {
         next = after;
-        turned = goes ∙ k.goes z ∙ step_is;
+        turned = goes ∙ k.goes taken z ∙ step_is;
         met = record {
           held = done.held;
           ordered = subst (λ (x : State). in_order p x ≡ true) (step_state_inner p u closed_ordered) (step_in_order p u closed_ordered);
           nodes = after_alike.nodes ∙ m.nodes;
           links = after_alike.links ∙ m.links;
-          force = λ q. subst (λ (x : ℕ). InForce p x after) (sym (q ∙ e)) (went_force laid fits k.next (with_arrays (prepared_arrays a w l) b) k.held links_long early closes sums lasts moves next_force);
+          force = λ q. subst (λ (x : ℕ). InForce p x after) (sym (q ∙ e)) (went_force laid fits k.next d k.held links_long early lasts next_force);
         };
       }
         where

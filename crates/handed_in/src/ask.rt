@@ -1,19 +1,17 @@
 // Every call asked on tables, a state and a table of the tanks' links, and its number printed.
-use crate::groups::{TankLinks, lay_out_number};
-use calls::PremiseAnswer;
+use crate::groups::lay_out_number;
+use calls::Refusal;
 use model::*;
 use std::io;
-use stops_ahead::{StopAnswer, next_stop};
+use stops_ahead::{NoStops, next_stop};
+use tank_links::LinkGroups;
 
 pub fn print(rt: &impl Print, n: u32) -> io::Result<()> {
     print!(rt; " {n}")
 }
 
-fn premise_number(a: PremiseAnswer) -> u32 {
-    match a {
-        PremiseAnswer::Truth(_) => 0,
-        PremiseAnswer::Refused(n) => n,
-    }
+fn premise_number(a: Result<bool, Refusal>) -> u32 {
+    a.map_or_else(|refusal| refusal.number(), |_| 0)
 }
 
 // The start, patterns, controls and a load without a word.
@@ -30,12 +28,11 @@ fn print_up_to_load(rt: &impl Print, p: Project, s: State) -> io::Result<()> {
 }
 
 // The stop after the state's instant: 0, the number of a refusal, or `none` where the stops are not known beforehand.
-fn print_stop(rt: &impl Print, a: StopAnswer) -> io::Result<()> {
+fn print_stop(rt: &impl Print, a: Result<Option<u32>, NoStops>) -> io::Result<()> {
     match a {
-        StopAnswer::Stop(_) => print(rt, 0),
-        StopAnswer::NoMore => print(rt, 0),
-        StopAnswer::Unforeseen => rt.print(" none"),
-        StopAnswer::Refused(n) => print(rt, n),
+        Ok(_) => print(rt, 0),
+        Err(NoStops::Unforeseen) => rt.print(" none"),
+        Err(NoStops::Refused(n)) => print(rt, n),
     }
 }
 
@@ -53,16 +50,13 @@ fn print_after_load(rt: &impl Print, p: Project, s: State) -> io::Result<()> {
 }
 
 // Laying the table out, and closing by the one that is handed in.
-fn print_by_table(rt: &impl Print, p: Project, s: State, t: TankLinks) -> io::Result<()> {
+fn print_by_table(rt: &impl Print, p: Project, s: State, t: &LinkGroups) -> io::Result<()> {
     print(rt, lay_out_number(p))?;
-    let begins = t.begins;
-    let middles = t.middles;
-    let links = t.links;
-    let close = calls::update_tank_links_by(p, s, &begins, &middles, &links);
+    let close = calls::update_tank_links_by(p, s, t);
     print(rt, close.number)
 }
 
-pub fn print_numbers(rt: &impl Print, p: Project, s: State, t: TankLinks) -> io::Result<()> {
+pub fn print_numbers(rt: &impl Print, p: Project, s: State, t: &LinkGroups) -> io::Result<()> {
     print_up_to_load(rt, p, s)?;
     print_after_load(rt, p, s)?;
     print_stop(rt, next_stop(p, s.clock.instant))?;

@@ -1,7 +1,6 @@
 // A change of one word: which word, by a code, of which entry of its table, and the low and high word of the new value. The code of each word stands
 // beside the field that it changes, in the files of the records. A word with another code stays as it was. An index past a table's end counts on from
 // its start.
-use model::PatternIndex;
 use number::from_words;
 
 #[derive(Clone, Copy)]
@@ -43,13 +42,13 @@ impl Change {
     }
 
     // 0 for none, else index + 1, as in an image.
-    pub fn pattern(self, what: u32, old: PatternIndex) -> PatternIndex {
+    pub fn pattern(self, what: u32, old: Option<usize>) -> Option<usize> {
         if self.what != what {
             return old;
         }
         if self.low == 0 {
-            return PatternIndex::NoPattern;
+            return None;
         }
-        PatternIndex::PatternAt((self.low - 1) as usize)
+        Some((self.low - 1) as usize)
     }
 }

@@ -1,6 +1,6 @@
 // One word of a control changed.
 use crate::change::Change;
-use model::{Control, ControlCondition, SettingAction, StatusAction};
+use model::{Control, ControlCondition};
 use number::from_words;
 
 fn changed_condition(condition: ControlCondition, c: Change) -> ControlCondition {
@@ -31,29 +31,24 @@ fn changed_condition(condition: ControlCondition, c: Change) -> ControlCondition
 }
 
 // The status, which the control had or had not.
-fn changed_status(old: StatusAction, c: Change) -> StatusAction {
-    if c.what == 50 {
-        return StatusAction::SetStatus(c.low);
-    }
-    old
+fn changed_status(old: Option<u32>, c: Change) -> Option<u32> {
+    if c.what == 50 { Some(c.low) } else { old }
 }
 
 // The setting, which the control had or had not.
-fn changed_setting(old: SettingAction, c: Change) -> SettingAction {
+fn changed_setting(old: Option<f64>, c: Change) -> Option<f64> {
     if c.what == 51 {
-        return SettingAction::SetSetting(from_words(c.low, c.high));
+        Some(from_words(c.low, c.high))
+    } else {
+        old
     }
-    old
 }
 
 pub fn changed_control(x: Control, c: Change) -> Control {
-    let condition = x.condition;
-    let status = x.status;
-    let setting = x.setting;
     Control {
-        condition: changed_condition(condition, c),
+        condition: changed_condition(x.condition, c),
         link: c.index(49, x.link),
-        status: changed_status(status, c),
-        setting: changed_setting(setting, c),
+        status: changed_status(x.status, c),
+        setting: changed_setting(x.setting, c),
     }
 }

@@ -22,11 +22,10 @@ fn changed_kind(kind: LinkType, c: Change) -> LinkType {
 }
 
 pub fn changed_link(l: Link, c: Change) -> Link {
-    let kind = l.kind;
     Link {
         start: c.index(41, l.start),
         end: c.index(42, l.end),
         initial_status: c.word(43, l.initial_status),
-        kind: changed_kind(kind, c),
+        kind: changed_kind(l.kind, c),
     }
 }

@@ -15,13 +15,14 @@ mod states;
 
 use ask::print_numbers;
 use change::Change;
-use groups::{TankLinks, changed_table, laid_out, print_table};
+use groups::{changed_table, laid_out, print_table};
 use model::*;
 use project::changed_project;
 use replay_input::read_full;
 use states::changed_state;
 use std::io;
 use std::io::Read;
+use tank_links::LinkGroups;
 
 const MOST_IMAGES: u32 = 1000;
 
@@ -31,10 +32,10 @@ fn read_change<R: Read>(from: &mut R) -> io::Result<Change> {
     let low = read_word(from)?;
     let high = read_word(from)?;
     Ok(Change {
-        what: what,
-        index: index,
-        low: low,
-        high: high,
+        what,
+        index,
+        low,
+        high,
     })
 }
 
@@ -44,14 +45,14 @@ fn run_change<R: Read>(
     rt: &impl Print,
     p: Project,
     s: State,
-    t: TankLinks,
+    t: &LinkGroups,
 ) -> io::Result<()> {
     let change = read_change(from)?;
     print_numbers(
         rt,
         changed_project(p, change),
         changed_state(s, change),
-        changed_table(t, change),
+        &changed_table(t, change),
     )
 }
 
@@ -60,13 +61,11 @@ fn run_changes<R: Read>(
     rt: &impl Print,
     p: Project,
     s: State,
-    t: TankLinks,
+    t: &LinkGroups,
     n: u32,
 ) -> io::Result<()> {
-    let mut i = 0;
-    while i < n {
+    for _ in 0..n {
         run_change(from, rt, p, s, t)?;
-        i += 1;
     }
     Ok(())
 }
@@ -80,28 +79,19 @@ fn read_word<R: Read>(from: &mut R) -> io::Result<u32> {
 
 // Reads n bytes to the start of the buffer, where it has room for them.
 fn read_bytes<R: Read>(from: &mut R, n: usize, bytes: &mut [u8]) -> io::Result<()> {
-    if bytes.len() < n {
-        return Ok(());
+    if let Some(lent) = bytes.get_mut(..n) {
+        read_full(from, lent)?;
     }
-    read_full(from, &mut bytes[0..n])?;
     Ok(())
 }
 
 // The project of the image in the first n bytes.
 fn decoded(n: usize, bytes: &[u8], table: &mut [u32]) -> Project {
-    if bytes.len() < n {
+    let Some(image) = bytes.get(..n) else {
         return Project::empty();
-    }
-    let k = words::words_of(&bytes[..n], table);
-    project_of(k, table)
-}
-
-fn project_of(k: usize, table: &[u32]) -> Project {
-    if table.len() < k {
-        return Project::empty();
-    }
-    let read = image::decode(&table[..k]);
-    read.project
+    };
+    let k = words::words_of(image, table);
+    image::decode(&table[..k]).project
 }
 
 // Makes the changes of the image that comes next, and answers whether there is one: at the end of the input its count is 0.
@@ -117,12 +107,11 @@ fn run_image<R: Read>(
     }
     read_bytes(from, n, bytes)?;
     let p = decoded(n, bytes, table);
-    let started = calls::new_with_initial_values(p);
-    let state = started.state;
-    let laid = laid_out(p);
-    print_table(rt, laid)?;
+    let state = calls::new_with_initial_values(p).state;
+    let (laid, _) = laid_out(p);
+    print_table(rt, &laid)?;
     let count = read_word(from)?;
-    run_changes(from, rt, p, state, laid, count)?;
+    run_changes(from, rt, p, state, &laid, count)?;
     Ok(true)
 }
 
@@ -132,12 +121,10 @@ fn run_images<R: Read>(
     bytes: &mut [u8],
     table: &mut [u32],
 ) -> io::Result<()> {
-    let mut i = 0;
-    while i < MOST_IMAGES {
+    for _ in 0..MOST_IMAGES {
         if !run_image(from, rt, bytes, table)? {
             return Ok(());
         }
-        i += 1;
     }
     Ok(())
 }

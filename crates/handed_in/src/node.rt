@@ -4,10 +4,9 @@ use model::{Demand, Demands, Junction, Node, NodeType, Reservoir};
 use tank::{Feet, Tank};
 
 fn changed_reservoir(r: Reservoir, c: Change) -> Reservoir {
-    let pattern = r.head_pattern;
     Reservoir {
         elevation: c.number(25, r.elevation),
-        head_pattern: c.pattern(26, pattern),
+        head_pattern: c.pattern(26, r.head_pattern),
     }
 }
 
@@ -24,10 +23,9 @@ fn changed_tank(t: Tank, c: Change) -> Tank {
 
 // The codes of demand k: 33 + k its base demand, 37 + k its pattern.
 fn changed_demand(d: Demand, base: u32, pattern: u32, c: Change) -> Demand {
-    let old = d.pattern;
     Demand {
         base: c.number(base, d.base),
-        pattern: c.pattern(pattern, old),
+        pattern: c.pattern(pattern, d.pattern),
     }
 }
 
@@ -45,11 +43,10 @@ fn changed_demands(demands: Demands, x: Change) -> Demands {
 }
 
 fn changed_junction(j: Junction, c: Change) -> Junction {
-    let demands = j.demands;
     Junction {
         disabled: c.flag(32, j.disabled),
         elevation: c.number(25, j.elevation),
-        demands: changed_demands(demands, c),
+        demands: changed_demands(j.demands, c),
     }
 }
 
@@ -62,8 +59,7 @@ fn changed_kind(kind: NodeType, c: Change) -> NodeType {
 }
 
 pub fn changed_node(n: Node, c: Change) -> Node {
-    let kind = n.kind;
     Node {
-        kind: changed_kind(kind, c),
+        kind: changed_kind(n.kind, c),
     }
 }

@@ -27,34 +27,26 @@ fn target_of(attribute: u32, i: usize) -> RuleConditionTarget {
 // What it looks at: the low word is the index, the high word the attribute.
 fn changed_target(old: RuleConditionTarget, c: Change) -> RuleConditionTarget {
     if c.what == 52 {
-        return target_of(c.high, c.low as usize);
+        target_of(c.high, c.low as usize)
+    } else {
+        old
     }
-    old
 }
 
 // The value, of whichever sort it was.
 fn changed_value(old: ConditionValue, c: Change) -> ConditionValue {
-    if c.what == 53 {
-        return ConditionValue::Number(from_words(c.low, c.high));
+    match c.what {
+        53 => ConditionValue::Number(from_words(c.low, c.high)),
+        54 => ConditionValue::Status(c.low),
+        55 => ConditionValue::Time(c.low),
+        _ => old,
     }
-    if c.what == 54 {
-        return ConditionValue::Status(c.low);
-    }
-    if c.what == 55 {
-        return ConditionValue::Time(c.low);
-    }
-    old
 }
 
 pub fn changed_premise(q: Premise, c: Change) -> Premise {
-    let operator = q.operator;
-    let target = q.target;
-    let comparison = q.comparison;
-    let value = q.value;
     Premise {
-        operator: operator,
-        target: changed_target(target, c),
-        comparison: comparison,
-        value: changed_value(value, c),
+        target: changed_target(q.target, c),
+        value: changed_value(q.value, c),
+        ..q
     }
 }

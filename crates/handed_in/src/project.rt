@@ -7,7 +7,6 @@ use crate::premises::changed_premise;
 use model::{Counts, Options, Project};
 
 fn changed_options(o: Options, c: Change) -> Options {
-    let default = o.default_pattern;
     Options {
         duration: c.word(8, o.duration),
         hydraulic: c.word(9, o.hydraulic),
@@ -17,7 +16,7 @@ fn changed_options(o: Options, c: Change) -> Options {
         start_clock: c.word(13, o.start_clock),
         skip: c.flag(21, o.skip),
         pda: c.flag(22, o.pda),
-        default_pattern: c.pattern(23, default),
+        default_pattern: c.pattern(23, o.default_pattern),
         demand_multiplier: c.number(24, o.demand_multiplier),
     }
 }

@@ -1,7 +1,7 @@
 -- What the tests of the tables keep as the decoder places an entry that has passed its own: the entries before it still pass, since counts only grow and
 -- what is written lies apart from them. Assumes nothing.
 use Prim.Native.Nat.{ℕ, zero, suc, ◌+◌, ◌*◌, ◌/◌, ◌≤◌, ◌<◌}
-use mathlib.Core.Path.{◌≡◌, refl, sym, ap, ◌∙◌}
+use mathlib.Core.Path.{◌≡◌, refl, ◌∙◌}
 use mathlib.Core.Logic.{⊎_elim}
 use mathlib.Core.Bool.{Bool, true, false, ◌&&◌}
 use mathlib.Core.List.{List}
@@ -10,7 +10,7 @@ use native.Mathlib.Omega.{arith}
 use borrow.Author.Tests.{le-leb, leb-true}
 use lib.Dec.{leb}
 use lib.Ieee.{Float, nan}
-use lib.ListN.{length, get_or, set, replicate, length-set, length-replicate}
+use lib.ListN.{length, get_or, set, length-set, length-replicate}
 use lib.Seq.{get_or-set_same, get_or-set_other}
 use Rattle.model.specs.Blank.{empty_project, blank_node, blank_link, blank_control, blank_premise}
 use Rattle.model.specs.Loops.{through, all_below}
@@ -19,8 +19,7 @@ use Rattle.model.specs.declared.link.Link.{Link}
 use Rattle.model.specs.declared.node.Node.{Node}
 use Rattle.model.specs.declared.project.Project.{Project}
 use Rattle.model.specs.declared.rule.Premise.{Premise}
-use Rattle.model.proofs.Loops.{both_left, held_at}
-use Rattle.table_ranges.specs.Ranges.{number_ok}
+use Rattle.model.proofs.Loops.{both_left}
 use Rattle.table_ranges.specs.Records.{options_ok}
 use Rattle.table_node.specs.Records.{node_ok}
 use Rattle.table_link.specs.Records.{link_ok}
@@ -34,7 +33,6 @@ use Rattle.image_entry.specs.Words.{number}
 use Rattle.image_entry.specs.declared.entry.Entry.{Entry}
 use Rattle.image_entry.specs.declared.entry.Entry.TheVariants as entries
 use Rattle.image_pattern.specs.Entries as payloads
-use Rattle.image_record.specs.Framing.{fault_of}
 use Rattle.image_record.proofs.Records.{Taken}
 use Rattle.image_place.specs.Placed.{multiplier_placed, multipliers_placed, placed}
 
@@ -161,7 +159,6 @@ premise_grows x m n k l g h e = and_grow {a = premise_ok x} (λ f. f) (premise_i
 -- ---- an entry placed
 pub placed_kept : (stage : ℕ) (t : Project) (p : List ℕ) (e : Entry) → Kept t → Taken stage t.counts p e → Kept (placed t e p)
 unfolding placed multipliers_placed patterns_ok nodes_ok links_ok controls_ok premises_ok node_fits link_fits control_fits premise_fits
-placed_kept stage t p (entries.Refused n) kept taken = kept
 placed_kept stage t p (entries.Options o) kept taken = record {
   few = kept.few;
   long_lengths = kept.long_lengths;
@@ -268,13 +265,12 @@ placed_kept stage t p (entries.Premise q) kept taken = record {
 }
 
 -- the options are those of the options record, which has passed, or stay
-pub options_kept : (stage : ℕ) (t : Project) (p : List ℕ) (e : Entry) → fault_of e ≡ 0 → (1 ≤ stage → options_ok t.options ≡ true) → Taken stage t.counts p e
+pub options_kept : (stage : ℕ) (t : Project) (p : List ℕ) (e : Entry) → (1 ≤ stage → options_ok t.options ≡ true) → Taken stage t.counts p e
     → options_ok (placed t e p).options ≡ true
-unfolding placed fault_of
-options_kept stage t p (entries.Refused n) z old taken = absurd (omega arith)
-options_kept stage t p (entries.Options o) z old taken = taken
-options_kept stage t p entries.Pattern z old taken = old taken.0
-options_kept stage t p (entries.Node n) z old taken = old taken.0
-options_kept stage t p (entries.Link l) z old taken = old taken.0
-options_kept stage t p (entries.Control c) z old taken = old taken.0
-options_kept stage t p (entries.Premise q) z old taken = old taken.0
+unfolding placed
+options_kept stage t p (entries.Options o) old taken = taken
+options_kept stage t p entries.Pattern old taken = old taken.0
+options_kept stage t p (entries.Node n) old taken = old taken.0
+options_kept stage t p (entries.Link l) old taken = old taken.0
+options_kept stage t p (entries.Control c) old taken = old taken.0
+options_kept stage t p (entries.Premise q) old taken = old taken.0

@@ -15,14 +15,11 @@ fn read_words<R: Read>(file: &mut R, input: &mut [u8], words: &mut [u32]) -> io:
 
 // The first word of a case is the count of the others.
 fn print_fault(rt: &impl Print, words: &[u32], k: usize) -> io::Result<()> {
-    if k < 1 {
+    if k < 1 || words.len() < k {
         return Ok(());
     }
-    if words.len() < k {
-        return Ok(());
-    }
-    let answer = image::decode(&words[1..k]);
-    rt.println(answer.fault)
+    let fault = image::decode(&words[1..k]).fault;
+    rt.println(fault.map_or(0, |fault| fault.number()))
 }
 
 // Decodes case i, and answers whether there is one.
@@ -42,14 +39,12 @@ fn run_case(
 
 // Decodes the cases up to the first number that has none, and answers how many they are.
 fn run_all(rt: &(impl Files + Print), input: &mut [u8], words: &mut [u32]) -> io::Result<u32> {
-    let mut i = 0;
-    while i < 1000 {
+    for i in 0..1000 {
         if !run_case(rt, i, input, words)? {
             return Ok(i);
         }
-        i += 1;
     }
-    Ok(i)
+    Ok(1000)
 }
 
 fn main(rt: HostRuntime) -> io::Result<()> {

@@ -1,68 +1,44 @@
 #![tactic(auto)]
 // What the payload of a control says (kind 7), and the first of numbers 4, 5 and 6 that it breaks.
 ghost use Rattle.std.specs.Prelude.{◌≡◌};
-ghost use Rattle.image_control.specs.Entries.{condition_of, status_action_of, setting_action_of, control_of, control_words_ok, control_entry};
+ghost use Rattle.image_control.specs.Entries.{condition_of, control_of, control_words_ok, control_entry};
 
-use image_entry::{Entry, number, passed, word};
-use model::{Control, ControlCondition, Counts, SettingAction, StatusAction};
+use image_entry::{Entry, Fault, check, number, word};
+use model::{Control, ControlCondition, Counts};
 use table_control::{control_indices_ok, control_ok};
 
 // The condition of a code, with its node or seconds and its target.
+// kept: the code stays a number with no `TryFrom` that refuses, since `control_of` gives each code a value and `control_words_ok` judges the codes apart.
+#[tactic(auto, unfolding(crate::specs::Entries::condition_of))]
 fn condition_of(code: u32, n: u32, target: f64) -> ControlCondition
     ensures { result ≡ condition_of code n target }
 {
     let node = n as usize;
-    if code == 0 {
-        return ControlCondition::HighPressure { node, target };
+    match code {
+        0 => ControlCondition::HighPressure { node, target },
+        1 => ControlCondition::LowPressure { node, target },
+        2 => ControlCondition::HighLevel { tank: node, target },
+        3 => ControlCondition::LowLevel { tank: node, target },
+        4 => ControlCondition::Time { seconds: n },
+        _ => ControlCondition::ClockTime { seconds: n },
     }
-    if code == 1 {
-        return ControlCondition::LowPressure { node, target };
-    }
-    if code == 2 {
-        return ControlCondition::HighLevel { tank: node, target };
-    }
-    if code == 3 {
-        return ControlCondition::LowLevel { tank: node, target };
-    }
-    if code == 4 {
-        return ControlCondition::Time { seconds: n };
-    }
-    ControlCondition::ClockTime { seconds: n }
 }
 
-fn status_action_of(present: bool, status: u32) -> StatusAction
-    ensures { result ≡ status_action_of present status }
-{
-    if present {
-        return StatusAction::SetStatus(status);
-    }
-    StatusAction::KeepStatus
-}
-
-fn setting_action_of(present: bool, setting: f64) -> SettingAction
-    ensures { result ≡ setting_action_of present setting }
-{
-    if present {
-        return SettingAction::SetSetting(setting);
-    }
-    SettingAction::KeepSetting
-}
-
+#[tactic(auto, unfolding(crate::specs::Entries::control_of, crate::specs::Entries::status_action_of, crate::specs::Entries::setting_action_of))]
 fn control_of(p: &[u32]) -> Control
     ensures { result ≡ control_of p.now }
 {
-    let target = number(p, 2);
     let flags = word(p, 5);
-    let setting = number(p, 7);
     Control {
-        condition: condition_of(word(p, 0), word(p, 1), target),
+        condition: condition_of(word(p, 0), word(p, 1), number(p, 2)),
         link: word(p, 4) as usize,
-        status: status_action_of(flags % 2 == 1, word(p, 6)),
-        setting: setting_action_of(flags / 2 % 2 == 1, setting),
+        status: (flags % 2 == 1).then_some(word(p, 6)),
+        setting: (flags / 2 % 2 == 1).then_some(number(p, 7)),
     }
 }
 
 // Codes and flags are known, and unused words are 0.
+#[tactic(auto, unfolding(crate::specs::Entries::control_words_ok))]
 fn control_words_ok(p: &[u32]) -> bool
     ensures { result ≡ control_words_ok p.now }
 {
@@ -75,14 +51,13 @@ fn control_words_ok(p: &[u32]) -> bool
         & ((flags / 2 % 2 == 1) | ((word(p, 7) == 0) & (word(p, 8) == 0)))
 }
 
-pub fn control_entry(p: &[u32], c: Counts) -> Entry
+#[tactic(auto, unfolding(crate::specs::Entries::control_entry, image_entry::specs::Entries::passed))]
+pub fn control_entry(p: &[u32], c: Counts) -> Result<Entry, Fault>
     ensures { result ≡ control_entry p.now c }
 {
     let control = control_of(p);
-    let room = c.controls < 64;
-    let words = control_words_ok(p) & control_ok(control);
-    let indices = control_indices_ok(c.nodes, c.links, control);
-    let fits = passed(indices, 6, Entry::Control(control));
-    let right = passed(words, 5, fits);
-    passed(room, 4, right)
+    check(c.controls < 64, Fault::Count)?;
+    check(control_words_ok(p) & control_ok(control), Fault::Word)?;
+    check(control_indices_ok(c.nodes, c.links, control), Fault::Index)?;
+    Ok(Entry::Control(control))
 }

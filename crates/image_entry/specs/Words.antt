@@ -1,8 +1,7 @@
 -- Document 01, "The project image": the words of a payload.
+use Rattle.std.specs.Prelude.{None, Option, Some}
 use Rattle.std.specs.Prelude.{ℕ, ◌+◌, ◌-◌, cond, List, eqb, Float, get_or}
 use Rattle.number.specs.Words.{from_words}
-use Rattle.model.specs.declared.pattern.PatternIndex.{PatternIndex}
-use Rattle.model.specs.declared.pattern.PatternIndex.TheVariants.{NoPattern, PatternAt}
 
 -- the word at place i; 0 past the end, where no kind of record reads
 abbrev pub word : List ℕ → ℕ → ℕ
@@ -13,5 +12,5 @@ abbrev pub number : List ℕ → ℕ → Float
 number p i = from_words (word p i) (word p (i + 1))
 
 -- "A pattern word is 0 for none, else index + 1."
-unfoldable pub pattern_index_of : ℕ → PatternIndex
-pattern_index_of w = cond (eqb w 0) NoPattern (PatternAt (w - 1))
+unfoldable pub pattern_index_of : ℕ → Option ℕ
+pattern_index_of w = cond (eqb w 0) None (Some (w - 1))

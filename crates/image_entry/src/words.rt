@@ -2,17 +2,13 @@
 ghost use Rattle.std.specs.Prelude.{◌≡◌, ◌+◌, ◌^◌, ◌<◌};
 ghost use Rattle.image_entry.specs.Words.{word, number, pattern_index_of};
 
-use model::PatternIndex;
 use number::from_words;
 
 // The word at a place; 0 past the end.
 pub fn word(p: &[u32], i: usize) -> u32
     ensures { result ≡ word p.now i }
 {
-    if i < p.len() {
-        return p[i];
-    }
-    0
+    p.get(i).copied().unwrap_or(0)
 }
 
 // The number whose low word is at a place.
@@ -24,11 +20,12 @@ pub fn number(p: &[u32], i: usize) -> f64
 }
 
 // The pattern that a word names.
-pub fn pattern_index_of(w: u32) -> PatternIndex
+#[tactic(auto, unfolding(crate::specs::Words::pattern_index_of))]
+pub fn pattern_index_of(w: u32) -> Option<usize>
     ensures { result ≡ pattern_index_of w }
 {
-    if w == 0 {
-        return PatternIndex::NoPattern;
+    match w {
+        0 => None,
+        _ => Some((w - 1) as usize),
     }
-    PatternIndex::PatternAt((w - 1) as usize)
 }

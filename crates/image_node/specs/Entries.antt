@@ -1,6 +1,6 @@
 -- Document 01, "The project image": what the payload of each kind of node says, and "Numbers by the place of the check": the first of 4, 5 and 6 that it breaks.
 -- The tests of what it says are those of the tables (table_node/specs); those that only the words can break stand here.
-use Rattle.std.specs.Prelude.{ℕ, ◌+◌, Bool, true, ◌&&◌, cond, List, leb, ltb, eqb, length}
+use Rattle.std.specs.Prelude.{ℕ, ◌+◌, Bool, true, ◌&&◌, cond, Result, Ok, List, leb, ltb, eqb, length}
 use Rattle.tank.specs.declared.tank.Tank as tanks
 use Rattle.model.specs.declared.node.Demand.{Demand}
 use Rattle.model.specs.declared.node.Demands.{Demands}
@@ -15,17 +15,19 @@ use Rattle.image_entry.specs.Words.{word, number, pattern_index_of}
 use Rattle.image_entry.specs.Entries.{passed}
 use Rattle.image_entry.specs.declared.entry.Entry.{Entry}
 use Rattle.image_entry.specs.declared.entry.Entry.TheVariants as entries
+use Rattle.image_entry.specs.declared.entry.Fault.{Fault}
+use Rattle.image_entry.specs.declared.entry.Fault.TheVariants as faults
 
 -- 3, 4 and 5: a node, where the test of its flag came out as `flag`
-unfoldable pub node_entry : Bool → Node → Counts → Entry
+unfoldable pub node_entry : Bool → Node → Counts → Result Entry Fault
 node_entry flag n c =
-    passed (ltb c.nodes 256) 4 (passed (flag && node_ok n.kind) 5 (passed (node_indices_ok c.patterns n.kind) 6 (entries.Node n)))
+    passed (ltb c.nodes 256) faults.Count (passed (flag && node_ok n.kind) faults.Word (passed (node_indices_ok c.patterns n.kind) faults.Index (Ok (entries.Node n))))
 
 -- 3 reservoir: "elevation, head pattern"
 unfoldable pub reservoir_of : List ℕ → reservoirs.Reservoir
 reservoir_of p = record { elevation = number p 0; head_pattern = pattern_index_of (word p 2) }
 
-unfoldable pub reservoir_entry : List ℕ → Counts → Entry
+unfoldable pub reservoir_entry : List ℕ → Counts → Result Entry Fault
 reservoir_entry p c = node_entry true (record { kind = Reservoir (reservoir_of p) }) c
 
 -- 4 tank: "elevation, initial, least, greatest level, diameter, flag 1 overflow"
@@ -39,7 +41,7 @@ tank_of p = record {
   overflow = eqb (word p 10) 1;
 }
 
-unfoldable pub tank_entry : List ℕ → Counts → Entry
+unfoldable pub tank_entry : List ℕ → Counts → Result Entry Fault
 tank_entry p c = node_entry (leb (word p 10) 1) (record { kind = Tank (tank_of p) }) c
 
 -- 5 junction: "flag 1 disabled, elevation, 0 to 4 of (base demand, pattern)"
@@ -57,5 +59,5 @@ demands_of p =
 unfoldable pub junction_of : List ℕ → junctions.Junction
 junction_of p = record { disabled = eqb (word p 0) 1; elevation = number p 1; demands = demands_of p }
 
-unfoldable pub junction_entry : List ℕ → Counts → Entry
+unfoldable pub junction_entry : List ℕ → Counts → Result Entry Fault
 junction_entry p c = node_entry (leb (word p 0) 1) (record { kind = Junction (junction_of p) }) c

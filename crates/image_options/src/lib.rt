@@ -3,10 +3,11 @@
 ghost use Rattle.std.specs.Prelude.{◌≡◌};
 ghost use Rattle.image_options.specs.Entries.{options_of, options_entry};
 
-use image_entry::{Entry, number, passed, pattern_index_of, word};
+use image_entry::{Entry, Fault, check, number, pattern_index_of, word};
 use model::Options;
 use table_ranges::options_ok;
 
+#[tactic(auto, unfolding(crate::specs::Entries::options_of))]
 fn options_of(p: &[u32]) -> Options
     ensures { result ≡ options_of p.now }
 {
@@ -25,10 +26,11 @@ fn options_of(p: &[u32]) -> Options
     }
 }
 
-pub fn options_entry(p: &[u32]) -> Entry
+#[tactic(auto, unfolding(crate::specs::Entries::options_entry, image_entry::specs::Entries::passed))]
+pub fn options_entry(p: &[u32]) -> Result<Entry, Fault>
     ensures { result ≡ options_entry p.now }
 {
     let o = options_of(p);
-    let words = (word(p, 6) <= 3) & options_ok(o);
-    passed(words, 5, Entry::Options(o))
+    check((word(p, 6) <= 3) & options_ok(o), Fault::Word)?;
+    Ok(Entry::Options(o))
 }

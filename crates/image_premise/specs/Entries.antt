@@ -1,6 +1,6 @@
 -- Document 01, "The project image": what a premise's payload says, and "Numbers by the place of the check": the first of 4, 5 and 6 that it breaks.
 -- The tests of what it says are those of the tables (table_premise/specs); those that only the words can break stand here.
-use Rattle.std.specs.Prelude.{ℕ, Bool, ◌&&◌, ◌||◌, cond, List, leb, ltb, eqb}
+use Rattle.std.specs.Prelude.{ℕ, Bool, ◌&&◌, ◌||◌, cond, Result, Ok, List, leb, ltb, eqb}
 use Rattle.number.specs.Words.{from_words}
 use Rattle.number.specs.declared.compare.ComparisonOperator.{ComparisonOperator}
 use Rattle.number.specs.declared.compare.ComparisonOperator.TheVariants.{Eq, Ne, Gt, Lt, Ge, Le}
@@ -25,6 +25,8 @@ use Rattle.image_entry.specs.Words.{word}
 use Rattle.image_entry.specs.Entries.{passed}
 use Rattle.image_entry.specs.declared.entry.Entry.{Entry}
 use Rattle.image_entry.specs.declared.entry.Entry.TheVariants as entries
+use Rattle.image_entry.specs.declared.entry.Fault.{Fault}
+use Rattle.image_entry.specs.declared.entry.Fault.TheVariants as faults
 
 -- 8 premise: "operator (0 or, 1 and), attribute, index, comparison, value's sort (0 number, 1 status, 2 time), value"
 unfoldable pub operator_of : ℕ → RuleConditionOperator
@@ -71,8 +73,8 @@ premise_words_ok p =
     && (leb (word p 1) 8 || eqb (word p 2) 0)
     && (eqb (word p 4) 0 || eqb (word p 6) 0)
 
-unfoldable pub premise_entry : List ℕ → Counts → Entry
+unfoldable pub premise_entry : List ℕ → Counts → Result Entry Fault
 premise_entry p c =
-    passed (ltb c.premises 128) 4
-    (passed (premise_words_ok p && premise_ok (premise_of p)) 5
-    (passed (premise_indices_ok c.nodes c.links (premise_of p).target) 6 (entries.Premise (premise_of p))))
+    passed (ltb c.premises 128) faults.Count
+    (passed (premise_words_ok p && premise_ok (premise_of p)) faults.Word
+    (passed (premise_indices_ok c.nodes c.links (premise_of p).target) faults.Index (Ok (entries.Premise (premise_of p)))))

@@ -3,7 +3,7 @@
 ghost use Rattle.std.specs.Prelude.{◌≡◌};
 ghost use Rattle.image_premise.specs.Entries.{operator_of, node_attribute_of, tank_attribute_of, link_attribute_of, system_attribute_of, target_of, comparison_of, value_of, premise_of, premise_words_ok, premise_entry};
 
-use image_entry::{Entry, passed, word};
+use image_entry::{Entry, Fault, check, word};
 use model::{
     ConditionValue, Counts, LinkAttribute, NodeAttribute, Premise, RuleConditionOperator,
     RuleConditionTarget, SystemAttribute, TankAttribute,
@@ -11,113 +11,101 @@ use model::{
 use number::{ComparisonOperator, from_words};
 use table_premise::{premise_indices_ok, premise_ok};
 
+// kept: the codes stay numbers with no `TryFrom` that refuses, since `premise_of` gives each code a value and `premise_words_ok` judges the codes apart.
+#[tactic(auto, unfolding(crate::specs::Entries::operator_of))]
 fn operator_of(code: u32) -> RuleConditionOperator
     ensures { result ≡ operator_of code }
 {
-    if code == 0 {
-        return RuleConditionOperator::Or;
+    match code {
+        0 => RuleConditionOperator::Or,
+        _ => RuleConditionOperator::And,
     }
-    RuleConditionOperator::And
 }
 
+#[tactic(auto, unfolding(crate::specs::Entries::node_attribute_of))]
 fn node_attribute_of(code: u32) -> NodeAttribute
     ensures { result ≡ node_attribute_of code }
 {
-    if code == 0 {
-        return NodeAttribute::Demand;
+    match code {
+        0 => NodeAttribute::Demand,
+        1 => NodeAttribute::Head,
+        _ => NodeAttribute::Pressure,
     }
-    if code == 1 {
-        return NodeAttribute::Head;
-    }
-    NodeAttribute::Pressure
 }
 
+#[tactic(auto, unfolding(crate::specs::Entries::tank_attribute_of))]
 fn tank_attribute_of(code: u32) -> TankAttribute
     ensures { result ≡ tank_attribute_of code }
 {
-    if code == 3 {
-        return TankAttribute::Level;
+    match code {
+        3 => TankAttribute::Level,
+        4 => TankAttribute::FillTime,
+        _ => TankAttribute::DrainTime,
     }
-    if code == 4 {
-        return TankAttribute::FillTime;
-    }
-    TankAttribute::DrainTime
 }
 
+#[tactic(auto, unfolding(crate::specs::Entries::link_attribute_of))]
 fn link_attribute_of(code: u32) -> LinkAttribute
     ensures { result ≡ link_attribute_of code }
 {
-    if code == 6 {
-        return LinkAttribute::Flow;
+    match code {
+        6 => LinkAttribute::Flow,
+        7 => LinkAttribute::Status,
+        _ => LinkAttribute::Setting,
     }
-    if code == 7 {
-        return LinkAttribute::Status;
-    }
-    LinkAttribute::Setting
 }
 
+#[tactic(auto, unfolding(crate::specs::Entries::system_attribute_of))]
 fn system_attribute_of(code: u32) -> SystemAttribute
     ensures { result ≡ system_attribute_of code }
 {
-    if code == 9 {
-        return SystemAttribute::Demand;
+    match code {
+        9 => SystemAttribute::Demand,
+        10 => SystemAttribute::Time,
+        _ => SystemAttribute::ClockTime,
     }
-    if code == 10 {
-        return SystemAttribute::Time;
-    }
-    SystemAttribute::ClockTime
 }
 
+#[tactic(auto, unfolding(crate::specs::Entries::target_of))]
 fn target_of(code: u32, n: u32) -> RuleConditionTarget
     ensures { result ≡ target_of code n }
 {
     let index = n as usize;
-    if code <= 2 {
-        return RuleConditionTarget::Node(index, node_attribute_of(code));
+    match code {
+        0..=2 => RuleConditionTarget::Node(index, node_attribute_of(code)),
+        3..=5 => RuleConditionTarget::Tank(index, tank_attribute_of(code)),
+        6..=8 => RuleConditionTarget::Link(index, link_attribute_of(code)),
+        _ => RuleConditionTarget::System(system_attribute_of(code)),
     }
-    if code <= 5 {
-        return RuleConditionTarget::Tank(index, tank_attribute_of(code));
-    }
-    if code <= 8 {
-        return RuleConditionTarget::Link(index, link_attribute_of(code));
-    }
-    RuleConditionTarget::System(system_attribute_of(code))
 }
 
+#[tactic(auto, unfolding(crate::specs::Entries::comparison_of))]
 fn comparison_of(code: u32) -> ComparisonOperator
     ensures { result ≡ comparison_of code }
 {
-    if code == 0 {
-        return ComparisonOperator::Eq;
+    match code {
+        0 => ComparisonOperator::Eq,
+        1 => ComparisonOperator::Ne,
+        2 => ComparisonOperator::Gt,
+        3 => ComparisonOperator::Lt,
+        4 => ComparisonOperator::Ge,
+        _ => ComparisonOperator::Le,
     }
-    if code == 1 {
-        return ComparisonOperator::Ne;
-    }
-    if code == 2 {
-        return ComparisonOperator::Gt;
-    }
-    if code == 3 {
-        return ComparisonOperator::Lt;
-    }
-    if code == 4 {
-        return ComparisonOperator::Ge;
-    }
-    ComparisonOperator::Le
 }
 
 // A number by both words, a status or a time by the low one.
+#[tactic(auto, unfolding(crate::specs::Entries::value_of))]
 fn value_of(sort: u32, lo: u32, hi: u32) -> ConditionValue
     ensures { result ≡ value_of sort lo hi }
 {
-    if sort == 0 {
-        return ConditionValue::Number(from_words(lo, hi));
+    match sort {
+        0 => ConditionValue::Number(from_words(lo, hi)),
+        1 => ConditionValue::Status(lo),
+        _ => ConditionValue::Time(lo),
     }
-    if sort == 1 {
-        return ConditionValue::Status(lo);
-    }
-    ConditionValue::Time(lo)
 }
 
+#[tactic(auto, unfolding(crate::specs::Entries::premise_of))]
 fn premise_of(p: &[u32]) -> Premise
     ensures { result ≡ premise_of p.now }
 {
@@ -130,6 +118,7 @@ fn premise_of(p: &[u32]) -> Premise
 }
 
 // Codes are known, and unused words are 0.
+#[tactic(auto, unfolding(crate::specs::Entries::premise_words_ok))]
 fn premise_words_ok(p: &[u32]) -> bool
     ensures { result ≡ premise_words_ok p.now }
 {
@@ -143,14 +132,13 @@ fn premise_words_ok(p: &[u32]) -> bool
         & ((sort == 0) | (word(p, 6) == 0))
 }
 
-pub fn premise_entry(p: &[u32], c: Counts) -> Entry
+#[tactic(auto, unfolding(crate::specs::Entries::premise_entry, image_entry::specs::Entries::passed))]
+pub fn premise_entry(p: &[u32], c: Counts) -> Result<Entry, Fault>
     ensures { result ≡ premise_entry p.now c }
 {
     let q = premise_of(p);
-    let room = c.premises < 128;
-    let words = premise_words_ok(p) & premise_ok(q);
-    let indices = premise_indices_ok(c.nodes, c.links, q);
-    let fits = passed(indices, 6, Entry::Premise(q));
-    let right = passed(words, 5, fits);
-    passed(room, 4, right)
+    check(c.premises < 128, Fault::Count)?;
+    check(premise_words_ok(p) & premise_ok(q), Fault::Word)?;
+    check(premise_indices_ok(c.nodes, c.links, q), Fault::Index)?;
+    Ok(Entry::Premise(q))
 }

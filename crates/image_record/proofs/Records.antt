@@ -8,6 +8,7 @@ use native.Mathlib.Omega.{arith}
 use native.Mathlib.Nat.{add-sub_cancel_left}
 use borrow.Author.Tests.{le-leb, lt-leb, leb-true, leb-false, ltb-true, eqb-true}
 use lib.Dec.{leb, eqb}
+use Rattle.std.specs.Prelude.{Result, Ok, Err, IfOk}
 use lib.ListN.{length, take, drop, get_or, length-drop}
 use lib.Seq.{length-take-le}
 use Rattle.model.specs.declared.project.Counts.{Counts}
@@ -20,6 +21,8 @@ use Rattle.table_premise.specs.Records.{premise_ok, premise_indices_ok}
 use Rattle.image_entry.specs.Entries.{passed}
 use Rattle.image_entry.specs.declared.entry.Entry.{Entry}
 use Rattle.image_entry.specs.declared.entry.Entry.TheVariants as entries
+use Rattle.image_entry.specs.declared.entry.Fault.{Fault}
+use Rattle.image_entry.specs.declared.entry.Fault.TheVariants as faults
 use Rattle.image_options.specs.Entries.{options_entry}
 use Rattle.image_pattern.specs.Entries.{multipliers_ok, pattern_entry}
 use Rattle.image_node.specs.Entries.{node_entry, reservoir_entry, tank_entry, junction_entry}
@@ -51,11 +54,11 @@ some_words (w ∷ ws) stage e = omega arith
 
 -- the three ways of a record whose header is h
 module _ (ws : List ℕ) (stage : ℕ) (c : Counts) (h : ℕ) (is : h ≡ get_or ws 0 0) where
-  pub record_2 : header_ok stage h ≡ false → record_of ws stage c ≡ entries.Refused 2
+  pub record_2 : header_ok stage h ≡ false → record_of ws stage c ≡ Err faults.Header
   unfolding record_of
   record_2 bad = rw (← is, bad)
 
-  pub record_3 : header_ok stage h ≡ true → length ws < 1 + size_of h → record_of ws stage c ≡ entries.Refused 3
+  pub record_3 : header_ok stage h ≡ true → length ws < 1 + size_of h → record_of ws stage c ≡ Err faults.Cut
   unfolding record_of
   record_3 ok s =
       let some : 0 < length ws = some_words ws stage (rw (← is) ok) in
@@ -94,9 +97,8 @@ module _ (ws : List ℕ) (stage : ℕ) (c : Counts) (e : fault_of (record_of ws 
   pub record_fits : 1 + size_of (get_or ws 0 0) ≤ length ws
   record_fits = fits_in (leb (1 + size_of (get_or ws 0 0)) (length ws)) refl record_header
 
--- What an entry satisfies where the record before was of this stage, `c` is declared so far, and p is the payload. A refusal has a number.
+-- What an entry satisfies where the record before was of this stage, `c` is declared so far, and p is the payload.
 abbrev pub Taken : ℕ → Counts → List ℕ → Entry → Type 0
-Taken stage c p (entries.Refused n) = 0 < n
 Taken stage c p (entries.Options o) = options_ok o ≡ true
 Taken stage c p entries.Pattern = (1 ≤ stage) × (c.patterns < 32) × (2 ≤ length p) × (length p ≤ 336) × (multipliers_ok p ≡ true)
 Taken stage c p (entries.Node n) =
@@ -109,18 +111,21 @@ Taken stage c p (entries.Premise q) =
 
 -- a payload's entry, test by test
 module _ (stage : ℕ) (c : Counts) (p : List ℕ) where
-  passed_taken : (b : Bool) (n : ℕ) (e : Entry) → 0 < n → (b ≡ true → Taken stage c p e) → Taken stage c p (passed b n e)
+  passed_taken :
+      (b : Bool) (f : Fault) (r : Result Entry Fault) → (b ≡ true → IfOk r (Taken stage c p)) → IfOk (passed b f r) (Taken stage c p)
   unfolding passed
-  passed_taken true n e h f = f refl
-  passed_taken false n e h f = h
+  passed_taken true f r h = h refl
+  passed_taken false f r h = tt
 
   chain_taken :
       (a b d : Bool) (e : Entry) → (a ≡ true → b ≡ true → d ≡ true → Taken stage c p e) →
-      Taken stage c p (passed a 4 (passed b 5 (passed d 6 e)))
+      IfOk (passed a faults.Count (passed b faults.Word (passed d faults.Index (Ok e)))) (Taken stage c p)
   chain_taken a b d e f =
-      passed_taken a 4 _ (omega arith) (λ x. passed_taken b 5 _ (omega arith) (λ y. passed_taken d 6 e (omega arith) (λ z. f x y z)))
+      passed_taken a _ _ (λ x. passed_taken b _ _ (λ y. passed_taken d _ (Ok e) (λ z. f x y z)))
 
-  cond_taken : (b : Bool) (x y : Entry) → (b ≡ true → Taken stage c p x) → (b ≡ false → Taken stage c p y) → Taken stage c p (cond b x y)
+  cond_taken :
+      (b : Bool) (x y : Result Entry Fault) → (b ≡ true → IfOk x (Taken stage c p)) → (b ≡ false → IfOk y (Taken stage c p)) →
+      IfOk (cond b x y) (Taken stage c p)
   cond_taken true x y f g = f refl
   cond_taken false x y f g = g refl
 
@@ -134,16 +139,16 @@ module _ (stage : ℕ) (c : Counts) (p : List ℕ) where
   unfolding stage_ok
   begun kind g n = leb-true 1 stage (both_left (leb 1 stage) _ (rw n at g))
 
-  entry_taken : (kind : ℕ) → stage_ok stage kind ≡ true → size_ok kind (length p) ≡ true → Taken stage c p (entry_of kind p c)
+  entry_taken : (kind : ℕ) → stage_ok stage kind ≡ true → size_ok kind (length p) ≡ true → IfOk (entry_of kind p c) (Taken stage c p)
   unfolding entry_of options_entry pattern_entry reservoir_entry tank_entry junction_entry node_entry link_entry control_entry premise_entry
   entry_taken kind g h =
-      cond_taken (eqb kind 1) _ _ (λ _. passed_taken _ 5 _ (omega arith) (λ w. both_right (leb (get_or p 6 0) 3) _ w))
+      cond_taken (eqb kind 1) _ _ (λ _. passed_taken _ _ _ (λ w. both_right (leb (get_or p 6 0) 3) _ w))
       (λ n.
       let s = begun kind g n in
       cond_taken (eqb kind 2) _ _
       (λ e.
       let l = pattern_size kind h (eqb-true kind 2 e) in
-      passed_taken _ 4 _ (omega arith) (λ r. passed_taken _ 5 _ (omega arith) (λ w. (s, ltb-true _ _ r, l.0, l.1, w))))
+      passed_taken _ _ _ (λ r. passed_taken _ _ _ (λ w. (s, ltb-true _ _ r, l.0, l.1, w))))
       (λ _. cond_taken (eqb kind 3) _ _ (λ _. chain_taken _ _ _ _ (λ r w i. (s, ltb-true _ _ r, w, i)))
       (λ _. cond_taken (eqb kind 4) _ _ (λ _. chain_taken _ _ _ _ (λ r w i. (s, ltb-true _ _ r, both_right (leb (get_or p 10 0) 1) _ w, i)))
       (λ _. cond_taken (eqb kind 5) _ _ (λ _. chain_taken _ _ _ _ (λ r w i. (s, ltb-true _ _ r, both_right (leb (get_or p 0 0) 1) _ w, i)))
@@ -155,8 +160,8 @@ module _ (stage : ℕ) (c : Counts) (p : List ℕ) where
 module _ (ws : List ℕ) (stage : ℕ) (c : Counts) where
   taken_in :
       (b : Bool) → leb (1 + size_of (get_or ws 0 0)) (length ws) ≡ b → header_ok stage (get_or ws 0 0) ≡ true →
-      Taken stage c (payload ws) (record_of ws stage c)
-  taken_in false s ok = rw (record_3 ws stage c (get_or ws 0 0) refl ok (leb-false _ _ s)) (omega arith)
+      IfOk (record_of ws stage c) (Taken stage c (payload ws))
+  taken_in false s ok = rw (record_3 ws stage c (get_or ws 0 0) refl ok (leb-false _ _ s)) tt
   taken_in true s ok =
       let h = get_or ws 0 0 in
       let f : 1 + size_of h ≤ length ws = leb-true _ _ s in
@@ -164,9 +169,9 @@ module _ (ws : List ℕ) (stage : ℕ) (c : Counts) where
       rw (record_in ws stage c h refl ok f)
       (entry_taken stage c (payload ws) (kind_of h) (header_stage stage h ok) (rw n (header_size stage h ok)))
 
-  taken_by : (b : Bool) → header_ok stage (get_or ws 0 0) ≡ b → Taken stage c (payload ws) (record_of ws stage c)
+  taken_by : (b : Bool) → header_ok stage (get_or ws 0 0) ≡ b → IfOk (record_of ws stage c) (Taken stage c (payload ws))
   taken_by true ok = taken_in (leb (1 + size_of (get_or ws 0 0)) (length ws)) refl ok
-  taken_by false bad = rw (record_2 ws stage c (get_or ws 0 0) refl bad) (omega arith)
+  taken_by false bad = rw (record_2 ws stage c (get_or ws 0 0) refl bad) tt
 
-  pub record_taken : Taken stage c (payload ws) (record_of ws stage c)
-  record_taken = taken_by (header_ok stage (get_or ws 0 0)) refl
+  pub record_taken : (e : Entry) → record_of ws stage c ≡ Ok e → Taken stage c (payload ws) e
+  record_taken e is = rw is at (taken_by (header_ok stage (get_or ws 0 0)) refl)

@@ -1,8 +1,10 @@
 -- Document 01, "The project image": a record's header, and by its kind the answer of its payload.
-use Rattle.std.specs.Prelude.{ℕ, ◌/◌, ◌%◌, ◌^◌, Bool, false, ◌&&◌, cond, List, leb, eqb, length, take, drop, get_or}
+use Rattle.std.specs.Prelude.{ℕ, ◌/◌, ◌%◌, ◌^◌, Bool, false, ◌&&◌, cond, Result, Ok, Err, List, leb, eqb, length, take, drop, get_or}
 use Rattle.model.specs.declared.project.Counts.{Counts}
 use Rattle.image_entry.specs.declared.entry.Entry.{Entry}
-use Rattle.image_entry.specs.declared.entry.Entry.TheVariants as entries
+use Rattle.image_entry.specs.declared.entry.Fault.{Fault}
+use Rattle.image_entry.specs.declared.entry.Fault.TheVariants as faults
+use Rattle.image_entry.specs.Faults.{fault_number}
 use Rattle.image_options.specs.Entries.{options_entry}
 use Rattle.image_pattern.specs.Entries.{pattern_entry}
 use Rattle.image_node.specs.Entries.{reservoir_entry, tank_entry, junction_entry}
@@ -42,7 +44,7 @@ stage_ok stage kind = cond (eqb kind 1) (eqb stage 0) (leb 1 stage && leb stage 
 unfoldable pub header_ok : ℕ → ℕ → Bool
 header_ok stage h = eqb (h / 2 ^ 16 % 2 ^ 12) 0 && stage_ok stage (kind_of h) && size_ok (kind_of h) (size_of h)
 
-unfoldable pub entry_of : ℕ → List ℕ → Counts → Entry
+unfoldable pub entry_of : ℕ → List ℕ → Counts → Result Entry Fault
 entry_of kind p c =
     cond (eqb kind 1) (options_entry p)
     (cond (eqb kind 2) (pattern_entry p c)
@@ -56,17 +58,12 @@ abbrev pub payload : List ℕ → List ℕ
 payload ws = take (size_of (get_or ws 0 0)) (drop 1 ws)
 
 -- the record at the front of the words: 2 by its header, then 3 "payload runs past the end", then by its payload
-unfoldable pub record_of : List ℕ → ℕ → Counts → Entry
+unfoldable pub record_of : List ℕ → ℕ → Counts → Result Entry Fault
 record_of ws stage c =
     let h = get_or ws 0 0 in
-    cond (header_ok stage h) (cond (leb (size_of h) (length (drop 1 ws))) (entry_of (kind_of h) (payload ws) c) (entries.Refused 3)) (entries.Refused 2)
+    cond (header_ok stage h) (cond (leb (size_of h) (length (drop 1 ws))) (entry_of (kind_of h) (payload ws) c) (Err faults.Cut)) (Err faults.Header)
 
 -- the number of a record's fault, 0 for none
-unfoldable pub fault_of : Entry → ℕ
-fault_of (entries.Refused n) = n
-fault_of (entries.Options o) = 0
-fault_of entries.Pattern = 0
-fault_of (entries.Node n) = 0
-fault_of (entries.Link l) = 0
-fault_of (entries.Control c) = 0
-fault_of (entries.Premise q) = 0
+unfoldable pub fault_of : Result Entry Fault → ℕ
+fault_of (Ok e) = 0
+fault_of (Err f) = fault_number f

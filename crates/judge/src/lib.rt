@@ -1,7 +1,7 @@
 #![tactic(auto)]
 // Number 10: what every later call asks first of the tables and the state that it is handed.
-ghost use Rattle.std.specs.Prelude.{◌≡◌, ◌&&◌, ◌≤◌, get_or};
-ghost use Rattle.model.specs.Blank.{blank_node_state, blank_link_state};
+ghost use Rattle.std.specs.Prelude.{◌≡◌, ◌&&◌};
+ghost use Rattle.std.specs.List.{list_all};
 ghost use Rattle.model.specs.Loops.{all_below};
 ghost use Rattle.tables.specs.Tables.{Few};
 ghost use Rattle.judge.specs.Judgement.{node_state_ok, link_state_ok, state_clock_ok, node_state_ok_at, link_state_ok_at, in_order};
@@ -26,38 +26,23 @@ fn link_state_ok(x: LinkState) -> bool
     within(1000000000000.0, x.flow) & status_ok(x.status) & within(1000000.0, x.setting)
 }
 
+#[tactic(auto, unfolding(crate::specs::Judgement::state_clock_ok))]
 fn state_clock_ok(duration: u32, c: Clock) -> bool
     ensures { result ≡ state_clock_ok duration c }
 {
     (c.instant <= duration) & (c.count <= c.instant)
 }
 
-fn node_states_ok(nodes: [NodeState; 256], n: usize) -> bool
-    requires { n ≤ 256 }
-    ensures { result ≡ all_below n (λ i. node_state_ok (get_or nodes i blank_node_state)) }
+fn node_states_ok(nodes: &[NodeState]) -> bool
+    ensures { result ≡ list_all node_state_ok nodes.now }
 {
-    let mut i = 0;
-    while i < n {
-        if !node_state_ok(nodes[i]) {
-            return false;
-        }
-        i += 1;
-    }
-    true
+    nodes.iter().all(|x| node_state_ok(*x))
 }
 
-fn link_states_ok(links: [LinkState; 384], n: usize) -> bool
-    requires { n ≤ 384 }
-    ensures { result ≡ all_below n (λ i. link_state_ok (get_or links i blank_link_state)) }
+fn link_states_ok(links: &[LinkState]) -> bool
+    ensures { result ≡ list_all link_state_ok links.now }
 {
-    let mut i = 0;
-    while i < n {
-        if !link_state_ok(links[i]) {
-            return false;
-        }
-        i += 1;
-    }
-    true
+    links.iter().all(|x| link_state_ok(*x))
 }
 
 // The state's part of number 10, behind the tables'.
@@ -65,11 +50,9 @@ pub fn state_ok(duration: u32, counts: Counts, s: State) -> bool
     requires { Few counts }
     ensures { result ≡ state_clock_ok duration s.clock && all_below counts.nodes (node_state_ok_at s) && all_below counts.links (link_state_ok_at s) }
 {
-    let nodes = s.nodes;
-    let links = s.links;
     state_clock_ok(duration, s.clock)
-        & node_states_ok(nodes, counts.nodes)
-        & link_states_ok(links, counts.links)
+        & node_states_ok(&s.nodes[..counts.nodes])
+        & link_states_ok(&s.links[..counts.links])
 }
 
 // Whether tables and state break nothing that number 10 asks.

@@ -27,8 +27,8 @@ fn answer(rt: &impl Print, t: Tank, head: f64, target: f64, demand: f64) -> io::
         kind: NodeType::Tank(t),
     };
     let state = NodeState {
-        head: head,
-        demand: demand,
+        head,
+        demand,
         demand_flow: 0.0,
     };
     let control = ControlCondition::HighLevel { tank: 0, target };
@@ -70,10 +70,8 @@ fn answer_next<R: Read>(from: &mut R, rt: &impl Print) -> io::Result<()> {
 }
 
 fn answer_all<R: Read>(from: &mut R, rt: &impl Print, n: u32) -> io::Result<()> {
-    let mut i = 0;
-    while i < n {
+    for _ in 0..n {
         answer_next(from, rt)?;
-        i += 1;
     }
     Ok(())
 }

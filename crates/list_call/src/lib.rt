@@ -6,65 +6,58 @@ ghost use Rattle.calls.specs.Calls.{load};
 ghost use Rattle.demand3.specs.Calls.{called, pressed, stepped, asked, by_own_table};
 ghost use Rattle.list_call.specs.FirstCall.{first_call};
 
-use calls::{Called, PremiseAnswer, PressureCalled, StepCalled};
+use calls::{Called, PressureCalled, Refusal, StepCalled};
 use demand3::Outcome;
 use image_entry::word;
 use list_words::call_ok;
 use model::*;
-use tank_links::{no_entries, no_middles, no_places};
+use tank_links::LinkGroups;
 
 fn called(c: Called) -> Outcome
     ensures { result ≡ called c }
 {
-    let state = c.state;
     Outcome {
         number: c.number,
         length: 0,
         truth: false,
-        state: state,
+        state: c.state,
     }
 }
 
 fn pressed(c: PressureCalled) -> Outcome
     ensures { result ≡ pressed c }
 {
-    let state = c.state;
     Outcome {
         number: c.number,
         length: 0,
         truth: c.changed,
-        state: state,
+        state: c.state,
     }
 }
 
 fn stepped(c: StepCalled) -> Outcome
     ensures { result ≡ stepped c }
 {
-    let state = c.state;
     Outcome {
         number: c.number,
         length: c.length,
         truth: false,
-        state: state,
+        state: c.state,
     }
 }
 
-fn asked(a: PremiseAnswer, s: State) -> Outcome
-    ensures { result ≡ asked a s }
+fn asked(a: Result<bool, Refusal>, state: State) -> Outcome
+    ensures { result ≡ asked a state }
 {
-    match a {
-        PremiseAnswer::Truth(b) => Outcome {
-            number: 0,
-            length: 0,
-            truth: b,
-            state: s,
-        },
-        PremiseAnswer::Refused(n) => Outcome {
-            number: n,
-            length: 0,
-            truth: false,
-            state: s,
-        },
+    let (number, truth) = match a {
+        Ok(holds) => (0, holds),
+        Err(refusal) => (refusal.number(), false),
+    };
+    Outcome {
+        number,
+        length: 0,
+        truth,
+        state,
     }
 }
 
@@ -73,22 +66,21 @@ fn load_call(p: Project, s: State, words: &[u32]) -> Called
     requires { 2 + word_of words.now 1 ≤ length words.now }
     ensures { result ≡ load p (take (word_of words.now 1) (drop 2 words.now)) s }
 {
-    let to = 2 + (word(words, 1) as usize);
+    let to = 2 + word(words, 1) as usize;
     calls::take_load(p, s, &words[2..to])
 }
 
-// Closing by the table, laid out for it.
+// Closing by the table, laid out for it; where that is refused, so is the closing.
 fn close_by_table(p: Project, s: State) -> Called
     ensures { result ≡ by_own_table p s }
 {
-    let mut begins = no_places();
-    let mut middles = no_middles();
-    let mut links = no_entries();
-    calls::lay_out_tank_links(p, &mut begins, &mut middles, &mut links);
-    calls::update_tank_links_by(p, s, &begins, &middles, &links)
+    let mut groups = LinkGroups::empty();
+    let _ = calls::lay_out_tank_links(p, &mut groups);
+    calls::update_tank_links_by(p, s, &groups)
 }
 
 // What the first call of some words answers, and the state that it leaves; 18 and the same state where they begin with no call.
+#[tactic(auto, using(list_words::proofs::Lists::load_whole), unfolding(crate::specs::FirstCall::first_call, list_words::specs::Lists::call_of, demand3::specs::Calls::outcome))]
 pub fn first_call(p: Project, s: State, words: &[u32]) -> Outcome
     ensures { result ≡ first_call p words.now s }
 {
@@ -100,31 +92,15 @@ pub fn first_call(p: Project, s: State, words: &[u32]) -> Outcome
             state: s,
         };
     }
-    let code = word(words, 0);
-    if code == 1 {
-        return called(calls::apply_patterns(p, s));
+    match word(words, 0) {
+        1 => called(calls::apply_patterns(p, s)),
+        2 => called(calls::apply_controls(p, s)),
+        3 => called(load_call(p, s, words)),
+        4 => called(calls::update_tank_links(p, s)),
+        5 => pressed(calls::apply_pressure_controls(p, s)),
+        6 => asked(calls::premise_truth(p, s, word(words, 1) as usize), s),
+        7 => stepped(calls::next_hydraulic_timestep(p, s)),
+        8 => stepped(second_clock::step_by_seconds(p, s)),
+        _ => called(close_by_table(p, s)),
     }
-    if code == 2 {
-        return called(calls::apply_controls(p, s));
-    }
-    if code == 3 {
-        return called(load_call(p, s, words));
-    }
-    if code == 4 {
-        return called(calls::update_tank_links(p, s));
-    }
-    if code == 5 {
-        return pressed(calls::apply_pressure_controls(p, s));
-    }
-    if code == 6 {
-        let i = word(words, 1) as usize;
-        return asked(calls::premise_truth(p, s, i), s);
-    }
-    if code == 7 {
-        return stepped(calls::next_hydraulic_timestep(p, s));
-    }
-    if code == 8 {
-        return stepped(second_clock::step_by_seconds(p, s));
-    }
-    called(close_by_table(p, s))
 }

@@ -4,10 +4,11 @@ use mathlib.Core.Path.{◌≡◌, refl, sym, ap, ◌∙◌}
 use mathlib.Core.Bool.{Bool, true, false, cond, not, true≢false}
 use mathlib.Core.List.{List, [], ◌∷◌}
 use Prim.Native.Nat.{ℕ, ◌+◌, ◌≤◌, ◌<◌, ◌^◌}
+use mir.Val.{bool_byte}
 use native.Mathlib.Omega.{arith}
 use lib.Dec.{eqb, ltb}
 use borrow.Author.Tests.{eq-eqb, ne_eqb}
-use lib.ListN.{length, drop}
+use lib.ListN.{length, drop, length-drop}
 use Rattle.clock.proofs.Tests.{ltb_ind}
 use Rattle.clock.specs.Machine.{bit, final, asked, answered, times_moved}
 use Rattle.model.specs.declared.project.Project.{Project}
@@ -19,14 +20,13 @@ use Rattle.judge.specs.Judgement.{in_order}
 use Rattle.calls_sound.proofs.Theorem.{tables_of, state_of}
 use Rattle.calls.specs.Calls as calls
 use Rattle.calls.specs.Calls.{start}
-use Rattle.calls.specs.declared.PremiseAnswer.{PremiseAnswer}
-use Rattle.calls.specs.declared.PremiseAnswer.TheVariants.{Truth, Refused}
-use Rattle.image.proofs.Turns.{rest}
+use Rattle.std.specs.Prelude.{Result, Ok, Err}
+use Rattle.calls.specs.declared.refusal.Refusal.{Refusal}
 use Rattle.second_clock.specs.SecondClock.{second_applies}
 use Rattle.second_clock.proofs.Laws.{second_refused}
 use Rattle.list_words.specs.Calls.{Call, patterns, controls, load, tank_links, pressure, premise, step, second, tank_links_by_table, is_step}
 use Rattle.list_words.specs.Lists.{call_of, call_length, call_ok, calls_of, list_ok}
-use Rattle.list_words.proofs.Lists.{calls_here, ok_here, fits_here, calls_end}
+use Rattle.list_words.proofs.Lists.{calls_more, ok_more, ok_whole, length_some}
 use Rattle.demand3.specs.Calls.{asked as asked_of, outcome}
 use Rattle.demand3.specs.Machine.{machine}
 use Rattle.demand3.specs.declared.Outcome.{Outcome}
@@ -37,9 +37,9 @@ use Rattle.list_run.specs.Runs.{none_run, counted, counted_all, Answers}
 use Rattle.list_run.specs.declared.ListRun.{ListRun}
 
 -- ---- one call
-asked_length : (a : PremiseAnswer) (s : State) → (asked_of a s).length ≡ 0
-asked_length (Truth b) s = refl
-asked_length (Refused n) s = refl
+asked_length : (a : Result Bool Refusal) (s : State) → (asked_of a s).length ≡ 0
+asked_length (Ok b) s = refl
+asked_length (Err r) s = refl
 
 length_quiet : (p : Project) (c : Call) (s : State) → is_step (second_applies p) c ≡ false → (outcome p c s).length ≡ 0
 unfolding outcome
@@ -96,75 +96,63 @@ pub counted_is :
 unfolding counted
 counted_is p c r o n m e a q = rw (q, a, e)
 
-pub no_move : (m after before : ℕ) → after ≡ before → m ≡ m + move_of after before
-no_move m after before e = omega (arith, still after before e)
-
-pub one_move : (m after before : ℕ) → (after ≡ before → ⊥) → m + 1 ≡ m + move_of after before
-one_move m after before n = rw (ne_eqb after before n)
-
--- ---- the run so far
-pub record Fits (p : Project) (r : ListRun) (at : ℕ) : Type 0 where
-  pub order : in_order p r.state ≡ true
-  pub asks : r.asked ≤ at
-  pub sum : r.answered ≤ r.state.clock.instant
-  pub moving : r.moves ≤ r.state.clock.count
+-- a truth as a number
+pub byte : (b : Bool) → bool_byte b ≡ bit b
+byte true = refl
+byte false = refl
 
 pub bit_most : (b : Bool) → bit b ≤ 1
 bit_most true = omega arith
 bit_most false = omega arith
-
-pub counted_fits : (p : Project) (c : Call) (r : ListRun) (at next : ℕ) → at < next → Fits p r at → Fits p (counted p c r) next
-unfolding counted
-counted_fits p c r at next l f = record {
-  order = (lawful p).sound c r.state f.order;
-  asks = omega (arith, f.asks, bit_most (is_step (second_applies p) c));
-  sum = omega (arith, f.sum, after_instant p c r.state f.order);
-  moving = omega (arith, f.moving, after_count p c r.state f.order);
-}
 
 -- the words hold the counts
 module _ (p : Project) (c : Call) (r : ListRun) (k : in_order p r.state ≡ true) where
   pub sum_fits : r.answered ≤ r.state.clock.instant → r.answered + (outcome p c r.state).length < 2 ^ 32
   sum_fits l = omega (arith, after_instant p c r.state k, after_within p c r.state k)
 
-  pub moves_fit : r.moves ≤ r.state.clock.count → ((outcome p c r.state).state.clock.instant ≡ r.state.clock.instant → ⊥) → r.moves + 1 < 2 ^ 32
-  moves_fit l n =
-      let m : move_of (outcome p c r.state).state.clock.instant r.state.clock.instant ≡ 1 = rw (ne_eqb (outcome p c r.state).state.clock.instant r.state.clock.instant n) in
-      omega (arith, m, after_count p c r.state k, after_few p c r.state k, after_within p c r.state k)
+  pub moves_fit : r.moves ≤ r.state.clock.count → r.moves + move_of (outcome p c r.state).state.clock.instant r.state.clock.instant < 2 ^ 32
+  moves_fit l = omega (arith, after_count p c r.state k, after_few p c r.state k, after_within p c r.state k)
 
-pub record Running (p : Project) (r₀ : ListRun) (words : List ℕ) (at : ℕ) (r : ListRun) : Type 0 where
-  pub within : at ≤ length words
-  pub whole : list_ok 0 (drop at words) ≡ true
-  pub fits : Fits p r at
-  pub same : counted_all p (calls_of 0 words) r₀ ≡ counted_all p (calls_of 0 (drop at words)) r
+-- ---- the run so far, of the words that are left
+pub record Running (p : Project) (r₀ : ListRun) (words rest : List ℕ) (r : ListRun) : Type 0 where
+  pub short : length rest ≤ length words
+  pub room : r.asked + length rest ≤ length words
+  pub whole : list_ok 0 rest ≡ true
+  pub order : in_order p r.state ≡ true
+  pub sum : r.answered ≤ r.state.clock.instant
+  pub moving : r.moves ≤ r.state.clock.count
+  pub same : counted_all p (calls_of 0 words) r₀ ≡ counted_all p (calls_of 0 rest) r
 
-pub running : {p : Project} {s : State} {words : List ℕ} {r : ListRun} → in_order p s ≡ true → list_ok 0 words ≡ true → r ≡ none_run 0 s → Running p r words 0 r
-running {p} {s} {words} k e q = rw q (record {
-  within = omega arith;
-  whole = e;
-  fits = record { order = k; asks = omega arith; sum = omega arith; moving = omega arith };
-  same = refl;
-})
+pub running : {p : Project} {s : State} {words : List ℕ} {r : ListRun} → in_order p s ≡ true → list_ok 0 words ≡ true → r ≡ none_run 0 s → Running p r words words r
+running {p} {s} {words} k e q = rw q (record { short = omega arith; room = omega arith; whole = e; order = k; sum = omega arith; moving = omega arith; same = refl })
 
-module _ {p : Project} {r₀ : ListRun} {words : List ℕ} {at : ℕ} {r : ListRun} (g : Running p r₀ words at r) (here : at < length words) where
-  pub call_whole : call_ok (rest words at) ≡ true
-  call_whole = both_left _ (list_ok 0 (drop (at + call_length (rest words at)) words)) (sym (ok_here words at here) ∙ g.whole)
+module _ {p : Project} {r₀ : ListRun} {words rest : List ℕ} {r : ListRun} (g : Running p r₀ words rest r) (some : 0 < length rest) where
+  pub call_whole : call_ok rest ≡ true
+  call_whole = both_left _ (list_ok 0 (drop (call_length rest) rest)) (sym (ok_more rest some) ∙ g.whole)
 
-  pub next_within : at + call_length (rest words at) ≤ length words
-  next_within = fits_here words at here call_whole
+  pub ran_more : {u : ListRun} → u ≡ counted p (call_of rest) r → Running p r₀ words (drop (call_length rest) rest) u
+  unfolding counted_all counted
+  ran_more {u} e = rw e (
+      let fits = ok_whole rest call_whole in
+      let left = length-drop (call_length rest) rest in
+      let one = length_some rest in
+      record {
+        short = omega (arith, g.short, left);
+        room = omega (arith, g.room, left, one, fits, bit_most (is_step (second_applies p) (call_of rest)));
+        whole = both_right (call_ok rest) _ (sym (ok_more rest some) ∙ g.whole);
+        order = (lawful p).sound (call_of rest) r.state g.order;
+        sum = omega (arith, g.sum, after_instant p (call_of rest) r.state g.order);
+        moving = omega (arith, g.moving, after_count p (call_of rest) r.state g.order);
+        same = g.same ∙ ap (λ cs. counted_all p cs r) (calls_more rest some);
+      })
 
-  pub ran_more : {u : ListRun} → at < at + call_length (rest words at) → u ≡ counted p (call_of (rest words at)) r → Running p r₀ words (at + call_length (rest words at)) u
-  unfolding counted_all
-  ran_more {u} l e = rw e (record {
-    within = next_within;
-    whole = both_right (call_ok (rest words at)) _ (sym (ok_here words at here) ∙ g.whole);
-    fits = counted_fits p (call_of (rest words at)) r at _ l g.fits;
-    same = g.same ∙ ap (λ cs. counted_all p cs r) (calls_here words at here);
-  })
+none_left : (p : Project) (r : ListRun) (ws : List ℕ) → length ws ≡ 0 → counted_all p (calls_of 0 ws) r ≡ r
+unfolding counted_all calls_of
+none_left p r [] e = refl
+none_left p r (w ∷ ws) e = absurd (omega arith)
 
-pub ran_all : {p : Project} {r₀ : ListRun} {words : List ℕ} {at : ℕ} {r : ListRun} → Running p r₀ words at r → length words ≤ at → r ≡ counted_all p (calls_of 0 words) r₀
-unfolding counted_all
-ran_all {p} {r₀} {words} {at} {r} g h = sym (g.same ∙ ap (λ cs. counted_all p cs r) (calls_end words at h))
+pub ran_all : {p : Project} {r₀ : ListRun} {words rest : List ℕ} {r : ListRun} → Running p r₀ words rest r → length rest ≡ 0 → r ≡ counted_all p (calls_of 0 words) r₀
+ran_all {p} {r₀} {words} {rest} {r} g h = sym (g.same ∙ none_left p r rest h)
 
 -- ---- what was counted along a list
 module _ (p : Project) where

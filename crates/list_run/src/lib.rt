@@ -6,6 +6,7 @@ ghost use Rattle.second_clock.specs.SecondClock.{second_applies};
 ghost use Rattle.list_words.specs.Lists.{call_of, call_ok, calls_of, list_ok};
 ghost use Rattle.list_run.specs.Runs.{none_run, counted, counted_all, run_list, Answers};
 
+use calls::Called;
 use list_call::first_call;
 use list_words::{call_length, list_ok, steps_asked};
 use model::*;
@@ -13,6 +14,7 @@ use second_clock::second_applies;
 
 // The number, 0 where the list is run; the state that it leaves; the steps asked, the sum of the steps answered in seconds, and the times that the
 // clock moved.
+// kept: the number stands beside the state, which a list that is not run yields too (`run_list`).
 #[derive(Clone, Copy)]
 pub struct ListRun {
     pub number: u32,
@@ -22,12 +24,12 @@ pub struct ListRun {
     pub moves: u32,
 }
 
-fn none_run(number: u32, s: State) -> ListRun
-    ensures { result ≡ none_run number s }
+fn none_run(number: u32, state: State) -> ListRun
+    ensures { result ≡ none_run number state }
 {
     ListRun {
-        number: number,
-        state: s,
+        number,
+        state,
         asked: 0,
         answered: 0,
         moves: 0,
@@ -41,27 +43,14 @@ fn counted(p: Project, serves: bool, r: ListRun, words: &[u32]) -> ListRun
     requires asked_bound { (r.asked + 1 < 2 ^ 64) × (r.answered ≤ r.state.clock.instant) × (r.moves ≤ r.state.clock.count) × (call_ok words.now ≡ true) }
     ensures { result ≡ counted p (call_of words.now) r }
 {
-    let number = r.number;
-    let before = r.state;
-    let asked = r.asked + steps_asked(words, serves);
-    let o = first_call(p, before, words);
-    let answered = r.answered + o.length;
-    let state = o.state;
-    if state.clock.instant == before.clock.instant {
-        return ListRun {
-            number: number,
-            state: state,
-            asked: asked,
-            answered: answered,
-            moves: r.moves,
-        };
-    }
+    let o = first_call(p, r.state, words);
+    let moved = o.state.clock.instant != r.state.clock.instant;
     ListRun {
-        number: number,
-        state: state,
-        asked: asked,
-        answered: answered,
-        moves: r.moves + 1,
+        number: r.number,
+        state: o.state,
+        asked: r.asked + steps_asked(words, serves),
+        answered: r.answered + o.length,
+        moves: r.moves + u32::from(moved),
     }
 }
 
@@ -72,13 +61,11 @@ fn run_calls(p: Project, serves: bool, s: State, words: &[u32]) -> ListRun
     requires words_value { list_ok 0 words.now ≡ true }
     ensures { result ≡ counted_all p (calls_of 0 words.now) (none_run 0 s) }
 {
-    let n = words.len();
     let mut r = none_run(0, s);
-    let mut at = 0;
-    while at < n {
-        let ws = &words[at..];
-        r = counted(p, serves, r, ws);
-        at = at + call_length(ws);
+    let mut rest = words;
+    while !rest.is_empty() {
+        r = counted(p, serves, r, rest);
+        rest = &rest[call_length(rest)..];
     }
     r
 }
@@ -87,9 +74,7 @@ pub fn run_list(p: Project, words: &[u32]) -> ListRun
     ensures value { result ≡ run_list p words.now }
     ensures answers { result.number ≡ 0 → Answers p (calls_of 0 words.now) result }
 {
-    let started = calls::new_with_initial_values(p);
-    let number = started.number;
-    let state = started.state;
+    let Called { number, state } = calls::new_with_initial_values(p);
     if number != 0 {
         return none_run(number, state);
     }

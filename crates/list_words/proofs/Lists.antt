@@ -1,16 +1,15 @@
--- The walk over the words of a list, from a place on: its end and a turn at a call, for the check of the list and for its run. Assumes nothing.
+-- The walk over the words of a list: a turn at a call, for the check of the list and for its run. Assumes nothing.
 use Prim.Native.Nat.{ℕ, zero, suc, ◌+◌, ◌-◌, ◌≤◌, ◌<◌}
-use mathlib.Core.Path.{◌≡◌, refl, sym, ap, ◌∙◌}
+use mathlib.Core.Path.{◌≡◌, refl, ap, ◌∙◌}
 use mathlib.Core.Bool.{Bool, true, false, cond, ◌&&◌}
 use mathlib.Core.List.{List, [], ◌∷◌}
 use native.Mathlib.Omega.{arith}
 use lib.Dec.{eqb, leb}
 use borrow.Author.Tests.{leb-true}
-use lib.ListN.{length, drop, drop_of_length-le}
-use lib.Seq.{drop-drop}
+use lib.ListN.{length, take, drop, length-drop}
+use lib.Seq.{take_all}
 use Rattle.model.proofs.Loops.{both_right}
 use Rattle.image_entry.specs.Words.{word}
-use Rattle.image.proofs.Turns.{rest, rest_is, rest_length}
 use Rattle.list_words.specs.Lists.{call_of, call_length, call_ok, calls_of, list_ok}
 
 -- ---- one call
@@ -57,63 +56,25 @@ drop_pred w ws (suc n) l =
     ap (λ k. drop k ws) e
 
 -- the first call, and then the others
-calls_more : (ws : List ℕ) → 0 < length ws → calls_of 0 ws ≡ call_of ws ∷ calls_of 0 (drop (call_length ws) ws)
+pub calls_more : (ws : List ℕ) → 0 < length ws → calls_of 0 ws ≡ call_of ws ∷ calls_of 0 (drop (call_length ws) ws)
 unfolding calls_of
 calls_more [] l = absurd (omega arith)
 calls_more (w ∷ ws) l =
     ap (λ cs. call_of (w ∷ ws) ∷ cs)
     (calls_skip ws (call_length (w ∷ ws) - 1) ∙ ap (calls_of 0) (drop_pred w ws (call_length (w ∷ ws)) (length_some (w ∷ ws))))
 
-ok_more : (ws : List ℕ) → 0 < length ws → list_ok 0 ws ≡ (call_ok ws && list_ok 0 (drop (call_length ws) ws))
+pub ok_more : (ws : List ℕ) → 0 < length ws → list_ok 0 ws ≡ (call_ok ws && list_ok 0 (drop (call_length ws) ws))
 unfolding list_ok
 ok_more [] l = absurd (omega arith)
 ok_more (w ∷ ws) l =
     ap (λ b. call_ok (w ∷ ws) && b)
     (ok_skip ws (call_length (w ∷ ws) - 1) ∙ ap (list_ok 0) (drop_pred w ws (call_length (w ∷ ws)) (length_some (w ∷ ws))))
 
--- ---- from a place on
-module _ (words : List ℕ) (at : ℕ) (here : at < length words) where
-  rest_some : 0 < length (rest words at)
-  rest_some = rw (rest_length words at) (omega arith)
+-- the words behind a call, as the code takes them
+pub behind : (ws : List ℕ) (n : ℕ) → n ≤ length ws → take (length ws - n) (drop n ws) ≡ drop n ws
+behind ws n l = take_all (length ws - n) (drop n ws) (omega (arith, length-drop n ws))
 
-  next_is : drop (call_length (rest words at)) (rest words at) ≡ drop (at + call_length (rest words at)) words
-  next_is = ap (drop (call_length (rest words at))) (rest_is words at) ∙ drop-drop (call_length (rest words at)) at words
-
-  pub calls_here : calls_of 0 (drop at words) ≡ call_of (rest words at) ∷ calls_of 0 (drop (at + call_length (rest words at)) words)
-  calls_here =
-      sym (ap (calls_of 0) (rest_is words at)) ∙ calls_more (rest words at) rest_some
-      ∙ ap (λ ws. call_of (rest words at) ∷ calls_of 0 ws) next_is
-
-  pub ok_here : list_ok 0 (drop at words) ≡ (call_ok (rest words at) && list_ok 0 (drop (at + call_length (rest words at)) words))
-  ok_here =
-      sym (ap (list_ok 0) (rest_is words at)) ∙ ok_more (rest words at) rest_some
-      ∙ ap (λ ws. call_ok (rest words at) && list_ok 0 ws) next_is
-
-  pub fits_here : call_ok (rest words at) ≡ true → at + call_length (rest words at) ≤ length words
-  fits_here e = omega (arith, ok_whole (rest words at) e, rest_length words at, here)
-
-pub calls_end : (words : List ℕ) (at : ℕ) → length words ≤ at → calls_of 0 (drop at words) ≡ []
-unfolding calls_of
-calls_end words at h = rw (drop_of_length-le words h)
-
-pub ok_end : (words : List ℕ) (at : ℕ) → length words ≤ at → list_ok 0 (drop at words) ≡ true
+pub ok_end : (ws : List ℕ) → length ws ≡ 0 → list_ok 0 ws ≡ true
 unfolding list_ok
-ok_end words at h = rw (drop_of_length-le words h)
-
--- ---- the check: so far it is what the check of the rest is
-pub record Checked (words : List ℕ) (at : ℕ) : Type 0 where
-  pub within : at ≤ length words
-  pub same : list_ok 0 words ≡ list_ok 0 (drop at words)
-
-pub checking : (words : List ℕ) → Checked words 0
-checking words = record { within = omega arith; same = refl }
-
-module _ {words : List ℕ} {at : ℕ} (r : Checked words at) where
-  pub checked_bad : at < length words → call_ok (rest words at) ≡ false → list_ok 0 words ≡ false
-  checked_bad here e = r.same ∙ ok_here words at here ∙ rw e
-
-  pub checked_more : at < length words → call_ok (rest words at) ≡ true → Checked words (at + call_length (rest words at))
-  checked_more here e = record { within = fits_here words at here e; same = r.same ∙ ok_here words at here ∙ rw e }
-
-  pub checked_all : length words ≤ at → list_ok 0 words ≡ true
-  checked_all h = r.same ∙ ok_end words at h
+ok_end [] e = refl
+ok_end (w ∷ ws) e = absurd (omega arith)

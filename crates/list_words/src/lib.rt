@@ -7,56 +7,48 @@ ghost use Rattle.list_words.specs.Lists.{call_length, call_ok, asks_step, list_o
 use image_entry::word;
 
 // How many words the first call has.
+#[tactic(auto, unfolding(crate::specs::Lists::call_length))]
 pub fn call_length(words: &[u32]) -> usize
     ensures { result ≡ call_length words.now }
 {
-    let code = word(words, 0);
-    if code == 3 {
-        return 2 + (word(words, 1) as usize);
+    match word(words, 0) {
+        3 => 2 + word(words, 1) as usize,
+        6 => 2,
+        _ => 1,
     }
-    if code == 6 {
-        return 2;
-    }
-    1
 }
 
 // Whether the first call has a code that there is, and all of its words.
+#[tactic(auto, unfolding(crate::specs::Lists::call_ok))]
 pub fn call_ok(words: &[u32]) -> bool
     ensures { result ≡ call_ok words.now }
 {
     let code = word(words, 0);
-    if code < 1 {
-        return false;
-    }
-    if 9 < code {
-        return false;
-    }
-    call_length(words) <= words.len()
+    1 <= code && code <= 9 && call_length(words) <= words.len()
 }
 
 // 1 where the first call is one and asks for a step, else 0, on a project that the second clock serves or does not.
 pub fn steps_asked(words: &[u32], serves: bool) -> u64
     ensures { result ≡ bit (asks_step serves words.now) }
 {
-    let code = word(words, 0);
-    if (code == 7) | ((code == 8) & serves) {
-        return 1;
+    match word(words, 0) {
+        7 => 1,
+        8 => u64::from(serves),
+        _ => 0,
     }
-    0
 }
 
 // Whether every call of a list has a code that there is, and all of its words.
+#[tactic(auto, using(crate::proofs::Lists::ok_whole))]
 pub fn list_ok(words: &[u32]) -> bool
     ensures { result ≡ list_ok 0 words.now }
 {
-    let n = words.len();
-    let mut at = 0;
-    while at < n {
-        let ws = &words[at..];
-        if !call_ok(ws) {
+    let mut rest = words;
+    while !rest.is_empty() {
+        if !call_ok(rest) {
             return false;
         }
-        at = at + call_length(ws);
+        rest = &rest[call_length(rest)..];
     }
     true
 }

@@ -1,13 +1,13 @@
 -- Laws of a text put into a buffer.
 -- Assumes nothing.
-use Prim.Native.Nat.{ℕ, ◌+◌, ◌-◌, ◌≤◌, ◌<◌}
+use Prim.Native.Nat.{ℕ, ◌+◌, ◌≤◌, ◌<◌}
 use mathlib.Core.Path.{◌≡◌, refl, sym, ◌∙◌, subst}
 use mathlib.Core.List.{List, [], ◌∷◌, ◌++◌, append_assoc}
 use native.Mathlib.Nat.{add_assoc, add-zero}
 use native.Mathlib.Numerals.{add-one}
 use native.Mathlib.Omega.{arith}
 use mathlib.Core.Bool.{Bool, true, false, cond}
-use borrow.Author.Tests.{le-leb, lt-leb, leb-true, leb-false}
+use borrow.Author.Tests.{le-leb, leb-true}
 use lib.Dec.{leb}
 use lib.ListN.{length, take, drop, set, length-append, length-drop, take-append-drop}
 use lib.Seq.{set_split, take_at, drop-drop, drop-append-add, length-take-le}
@@ -78,14 +78,6 @@ module _ {buf : List ℕ} {at : ℕ} where
 pub put_as : {buf : List ℕ} {at : ℕ} {text other now : List ℕ} {pos : ℕ} → text ≡ other → Put buf at text now pos → Put buf at other now pos
 put_as {buf} {at} {text} {other} {now} {pos} e p = subst (λ (t : List ℕ). Put buf at t now pos) e p
 
--- the test for room, with no sum that could be too large for the machine
-pub room_test : (at n len : ℕ) → n ≤ len → leb at (len - n) ≡ leb (at + n) len
-room_test at n len h = tested (leb at (len - n)) refl
-  where
-    tested : (b : Bool) → leb at (len - n) ≡ b → b ≡ leb (at + n) len
-    tested true t = sym (le-leb (at + n) len (omega (arith, h, leb-true at (len - n) t)))
-    tested false t = sym (lt-leb (at + n) len (omega (arith, h, leb-false at (len - n) t)))
-
 -- what a call says where the caller knows of room
 pub put_fits : {buf : List ℕ} {at : ℕ} (text : List ℕ) {now : List ℕ} {r : ℕ} → at + length text ≤ length buf → r ≡ after buf at text → now ≡ put buf at text → Put buf at text now r
 put_fits {buf} {at} text {now} {r} h e q =
@@ -111,9 +103,3 @@ module _ (buf : List ℕ) (at : ℕ) {n : ℕ} (text : List ℕ) (size : n ≡ l
 
   pub room_found : b ≡ true → at + length text ≤ length buf
   room_found t = leb-true (at + length text) (length buf) (rw (← size) (sym asked ∙ t))
-
-  -- and found none
-  pub no_room : b ≡ false → (at ≡ after buf at text) × (buf ≡ put buf at text)
-  no_room t =
-      let h : leb (at + length text) (length buf) ≡ false = rw (← size) (sym asked ∙ t) in
-      (rw h, rw h)

@@ -13,7 +13,7 @@ pub fn places(n: u32) -> usize
     let mut k = 1;
     let mut rest = n;
     while 10 <= rest {
-        rest = rest / 10;
+        rest /= 10;
         k += 1;
     }
     k
@@ -31,7 +31,7 @@ pub fn spell(buf: &mut [u8], at: usize, n: u32, k: usize) -> usize
     while 10 <= rest {
         i -= 1;
         buf[i] = 48 + (rest % 10) as u8;
-        rest = rest / 10;
+        rest /= 10;
     }
     buf[at] = 48 + rest as u8;
     at + k

@@ -2,6 +2,7 @@
 // The lines that the programs print, and numbers as text, written into a buffer that the caller lends.
 // Each public function writes its text from a position on where all of it has room, and answers the position after it;
 // without room it changes nothing and answers the position.
+// kept: buf and at travel together, but `after` and `put` speak of both as plain values, and the crates above name them in their contracts.
 mod decimal;
 mod hexadecimal;
 mod lines;

@@ -15,6 +15,7 @@ pub fn put_header(buf: &mut [u8], at: usize) -> usize
 }
 
 // The line of a step: its starting instant and its length in seconds.
+#[tactic(auto, using(crate::proofs::Listing::step_length_lem))]
 pub fn put_step_line(buf: &mut [u8], at: usize, from: u32, seconds: u32) -> usize
     ensures value { result ≡ after buf.old at (step_line from seconds) }
     ensures buf_after { buf.new ≡ put buf.old at (step_line from seconds) }

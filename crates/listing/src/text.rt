@@ -6,13 +6,11 @@ ghost use Rattle.listing.specs.Text.{pasted, put, after};
 pub fn has_room(len: usize, at: usize, n: usize) -> bool
     ensures { result ≡ leb (at + n) len }
 {
-    if len < n {
-        return false;
-    }
-    at <= len - n
+    n <= len && at <= len - n
 }
 
 // Writes one byte, and answers the position after it.
+#[tactic(auto, using(crate::proofs::Pasting::pasted_byte))]
 pub fn put_byte(buf: &mut [u8], at: usize, b: u8) -> usize
     requires { at < length buf.old }
     ensures value { result ≡ at + 1 }
@@ -28,14 +26,9 @@ pub fn copy_text(buf: &mut [u8], at: usize, text: &[u8]) -> usize
     ensures value { result ≡ at + length text.now }
     ensures buf_after { buf.new ≡ pasted buf.old at text.now }
 {
-    let mut i = 0;
-    let mut o = at;
-    while i < text.len() {
-        buf[o] = text[i];
-        o += 1;
-        i += 1;
-    }
-    o
+    let end = at + text.len();
+    buf[at..end].copy_from_slice(text);
+    end
 }
 
 // Any text.

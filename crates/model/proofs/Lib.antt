@@ -2,4 +2,5 @@
 pub mod Each
 pub mod Keeps
 pub mod Loops
+pub mod Nan
 pub mod Pointwise

@@ -1,12 +1,16 @@
 -- Loops that count, `while i < n { .. i += 1; }`: the invariant of one that makes f i t of t at turn i, of one that tests each index and returns
 -- where a test fails, and a law for each need of their proofs. Assumes nothing.
 use Prim.Native.Nat.{ℕ, zero, suc, ◌+◌, ◌≤◌, ◌<◌}
-use mathlib.Core.Path.{◌≡◌, refl, ◌∙◌}
+use mathlib.Core.Path.{◌≡◌, refl, ap, ◌∙◌}
+use mathlib.Core.List.{List}
 use native.Mathlib.Numerals.{add-one}
 use native.Mathlib.Omega.{arith}
 use mathlib.Core.Bool.{Bool, true, false, ◌&&◌, and-false}
 use native.Mathlib.Nat.{le_of_suc-le-suc, not-suc-le-zero, eq-or-lt_of_le}
 use mathlib.Core.Logic.{⊎_elim}
+use lib.ListN.{length, get_or, take}
+use Rattle.std.specs.List.{list_all}
+use Rattle.std.proofs.lemmas.List.Folds.{list_all_more}
 use Rattle.model.specs.Loops.{through, all_below}
 
 -- the loop has made t of s in i turns, of at most n
@@ -88,3 +92,11 @@ held_failed (suc n) t i l e =
     ⊎_elim (λ q. rw (← q, e, and-false))
     (λ m. rw (held_failed n t i m e))
     (eq-or-lt_of_le (le_of_suc-le-suc l))
+
+-- a test of each of the first n entries, as the library's `all` makes it
+pub all_first : {A : Type 0} (t : A → Bool) (xs : List A) (d : A) (n : ℕ) → n ≤ length xs → list_all t (take n xs) ≡ all_below n (λ i. t (get_or xs i d))
+unfolding all_below
+all_first t xs d zero h = refl
+all_first t xs d (suc n) h =
+    let more : list_all t (take (suc n) xs) ≡ (list_all t (take n xs) && t (get_or xs n d)) = rw add-one at (list_all_more t xs n d (omega arith)) in
+    more ∙ ap (λ b. b && t (get_or xs n d)) (all_first t xs d n (omega arith))

@@ -1,18 +1,16 @@
 -- The filler: "entries past the counts hold a fixed filler". It is also what the logic gives for a reading past the end of a table, so that
 -- one value stands for every entry that is not there. Its numbers are NaN, which passes no range test.
+use Rattle.std.specs.Prelude.{None}
 use Rattle.std.specs.Prelude.{ℕ, false, get_or, set, replicate}
 use Rattle.std.specs.Float.{nan}
 use Rattle.number.specs.declared.compare.ComparisonOperator.TheVariants.{Eq}
 use Rattle.model.specs.declared.control.Control.{Control}
 use Rattle.model.specs.declared.control.ControlCondition.TheVariants.{HighPressure}
-use Rattle.model.specs.declared.control.SettingAction.TheVariants.{KeepSetting}
-use Rattle.model.specs.declared.control.StatusAction.TheVariants.{KeepStatus}
 use Rattle.model.specs.declared.link.Link.{Link}
 use Rattle.model.specs.declared.link.LinkType.TheVariants.{Pipe}
 use Rattle.model.specs.declared.node.Node.{Node}
 use Rattle.model.specs.declared.node.NodeType.TheVariants.{Reservoir}
 use Rattle.model.specs.declared.options.Options.{Options}
-use Rattle.model.specs.declared.pattern.PatternIndex.TheVariants.{NoPattern}
 use Rattle.model.specs.declared.project.Counts.{Counts}
 use Rattle.model.specs.declared.project.Project.{Project}
 use Rattle.model.specs.declared.rule.ConditionValue.TheVariants.{Number}
@@ -25,13 +23,13 @@ use Rattle.model.specs.declared.state.NodeState.{NodeState}
 use Rattle.model.specs.declared.state.State.{State}
 
 abbrev pub blank_node : Node
-blank_node = record { kind = Reservoir (record { elevation = nan; head_pattern = NoPattern }) }
+blank_node = record { kind = Reservoir (record { elevation = nan; head_pattern = None }) }
 
 abbrev pub blank_link : Link
 blank_link = record { start = 0; end = 0; initial_status = 0; kind = Pipe nan }
 
 abbrev pub blank_control : Control
-blank_control = record { condition = HighPressure 0 nan; link = 0; status = KeepStatus; setting = KeepSetting }
+blank_control = record { condition = HighPressure 0 nan; link = 0; status = None; setting = None }
 
 abbrev pub blank_premise : Premise
 blank_premise = record { operator = Or; target = targets.Node 0 Demand; comparison = Eq; value = Number nan }
@@ -52,7 +50,7 @@ blank_options = record {
   start_clock = 0;
   skip = false;
   pda = false;
-  default_pattern = NoPattern;
+  default_pattern = None;
   demand_multiplier = nan;
 }
 

@@ -11,24 +11,11 @@ pub enum ControlCondition {
     ClockTime { seconds: u32 },
 }
 
-// The Rust's `Option<LinkStatus>`.
-#[derive(Clone, Copy)]
-pub enum StatusAction {
-    KeepStatus,
-    SetStatus(u32),
-}
-
-// The Rust's `Option<f64>`.
-#[derive(Clone, Copy)]
-pub enum SettingAction {
-    KeepSetting,
-    SetSetting(f64),
-}
-
+// `status`: the status that it sets, and `setting`: the setting; a status wins.
 #[derive(Clone, Copy)]
 pub struct Control {
     pub condition: ControlCondition,
     pub link: usize,
-    pub status: StatusAction,
-    pub setting: SettingAction,
+    pub status: Option<u32>,
+    pub setting: Option<f64>,
 }

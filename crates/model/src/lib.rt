@@ -10,11 +10,11 @@ mod project;
 mod rule;
 mod state;
 
-pub use control::{Control, ControlCondition, SettingAction, StatusAction};
+pub use control::{Control, ControlCondition};
 pub use link::{CLOSED, FIXED_CLOSED, Link, LinkType, TEMP_CLOSED};
 pub use node::{Demand, Demands, Junction, Node, NodeType, Reservoir};
 pub use options::Options;
-pub use pattern::{PatternIndex, multiplier_at, period};
+pub use pattern::{multiplier_at, period};
 pub use project::{
     Counts, Project, blank_control, blank_link, blank_node, blank_options, blank_premise, no_counts,
 };

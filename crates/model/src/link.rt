@@ -5,6 +5,7 @@ ghost use Rattle.model.specs.Links.{initial_flow, initial_setting};
 use number::constants::{PI, Q_ZERO};
 
 // Statuses are 0 to 9 in `LinkStatus` order; these three are named.
+// kept: tables and states handed in may hold any number there, which number 10 judges (`table_ranges::status_ok`, `judge::state_ok`).
 pub const TEMP_CLOSED: u32 = 1;
 
 pub const CLOSED: u32 = 2;
@@ -29,44 +30,29 @@ pub struct Link {
 }
 
 impl Link {
+    #[tactic(auto, unfolding(crate::specs::Links::initial_flow, number::specs::Constants::decimal))]
     pub fn initial_flow(self) -> f64
         ensures { result ≡ initial_flow self }
     {
-        let status = self.initial_status;
-        let kind = self.kind;
-        if status == FIXED_CLOSED {
+        if (self.initial_status == FIXED_CLOSED) | (self.initial_status == CLOSED) {
             return Q_ZERO;
         }
-        if status == CLOSED {
-            return Q_ZERO;
-        }
-        match kind {
-            LinkType::Pipe { diameter } => 0.25 * PI * (diameter * diameter),
-            LinkType::Pump {
-                initial_flow,
-                speed: _,
-            } => initial_flow,
-            LinkType::Valve {
-                diameter,
-                setting: _,
-            } => 0.25 * PI * (diameter * diameter),
+        match self.kind {
+            LinkType::Pipe { diameter } | LinkType::Valve { diameter, .. } => {
+                0.25 * PI * (diameter * diameter)
+            }
+            LinkType::Pump { initial_flow, .. } => initial_flow,
         }
     }
 
+    #[tactic(auto, unfolding(number::specs::Constants::decimal))]
     pub fn initial_setting(self) -> f64
         ensures { result ≡ initial_setting self }
     {
-        let kind = self.kind;
-        match kind {
-            LinkType::Pipe { diameter: _ } => 0.0,
-            LinkType::Pump {
-                initial_flow: _,
-                speed,
-            } => speed,
-            LinkType::Valve {
-                diameter: _,
-                setting,
-            } => setting,
+        match self.kind {
+            LinkType::Pipe { .. } => 0.0,
+            LinkType::Pump { speed, .. } => speed,
+            LinkType::Valve { setting, .. } => setting,
         }
     }
 }

@@ -2,19 +2,18 @@
 ghost use Rattle.std.specs.Prelude.{◌≡◌};
 ghost use Rattle.model.specs.Nodes.{elevation, initial_head, is_tank, is_junction};
 
-use crate::pattern::PatternIndex;
 use tank::Tank;
 
 #[derive(Clone, Copy)]
 pub struct Reservoir {
     pub elevation: f64,
-    pub head_pattern: PatternIndex,
+    pub head_pattern: Option<usize>,
 }
 
 #[derive(Clone, Copy)]
 pub struct Demand {
     pub base: f64,
-    pub pattern: PatternIndex,
+    pub pattern: Option<usize>,
 }
 
 // A junction's demands, in order.
@@ -50,19 +49,18 @@ impl Node {
     pub fn elevation(self) -> f64
         ensures { result ≡ elevation self }
     {
-        let kind = self.kind;
-        match kind {
+        match self.kind {
             NodeType::Reservoir(r) => r.elevation,
             NodeType::Tank(t) => t.elevation.0,
             NodeType::Junction(j) => j.elevation,
         }
     }
 
+    #[tactic(auto, unfolding(number::specs::Constants::decimal))]
     pub fn initial_head(self) -> f64
         ensures { result ≡ initial_head self }
     {
-        let kind = self.kind;
-        match kind {
+        match self.kind {
             NodeType::Reservoir(r) => r.elevation,
             NodeType::Tank(t) => t.elevation.0 + t.initial_level.0,
             NodeType::Junction(_) => 0.0,
@@ -72,22 +70,12 @@ impl Node {
     pub fn is_tank(self) -> bool
         ensures { result ≡ is_tank self }
     {
-        let kind = self.kind;
-        match kind {
-            NodeType::Reservoir(_) => false,
-            NodeType::Tank(_) => true,
-            NodeType::Junction(_) => false,
-        }
+        matches!(self.kind, NodeType::Tank(_))
     }
 
     pub fn is_junction(self) -> bool
         ensures { result ≡ is_junction self }
     {
-        let kind = self.kind;
-        match kind {
-            NodeType::Reservoir(_) => false,
-            NodeType::Tank(_) => false,
-            NodeType::Junction(_) => true,
-        }
+        matches!(self.kind, NodeType::Junction(_))
     }
 }

@@ -1,5 +1,4 @@
 // The options record of the image.
-use crate::pattern::PatternIndex;
 
 // Times are in seconds; `hydraulic`, `report` and `pattern` are timesteps.
 #[derive(Clone, Copy)]
@@ -12,6 +11,6 @@ pub struct Options {
     pub start_clock: u32,
     pub skip: bool,
     pub pda: bool,
-    pub default_pattern: PatternIndex,
+    pub default_pattern: Option<usize>,
     pub demand_multiplier: f64,
 }

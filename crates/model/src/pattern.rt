@@ -2,13 +2,6 @@
 ghost use Rattle.std.specs.Prelude.{◌≡◌};
 ghost use Rattle.model.specs.Patterns.{period, multiplier_at};
 
-// The Rust's `Option<usize>`.
-#[derive(Clone, Copy)]
-pub enum PatternIndex {
-    NoPattern,
-    PatternAt(usize),
-}
-
 // The pattern period of an instant; 0 where the timestep is 0.
 pub fn period(pattern_start: u32, pattern_timestep: u32, time: u32) -> u64
     ensures { result ≡ period pattern_start pattern_timestep time }
@@ -16,17 +9,16 @@ pub fn period(pattern_start: u32, pattern_timestep: u32, time: u32) -> u64
     if pattern_timestep == 0 {
         return 0;
     }
-    ((pattern_start as u64) + (time as u64)) / (pattern_timestep as u64)
+    (u64::from(pattern_start) + u64::from(time)) / u64::from(pattern_timestep)
 }
 
 // A pattern's multiplier at a period; 1 where it has none.
+#[tactic(auto, unfolding(crate::specs::Patterns::multiplier_at, number::specs::Constants::decimal))]
 pub fn multiplier_at(multipliers: &[f64], period: u64) -> f64
     ensures { result ≡ multiplier_at multipliers.now period }
 {
-    let n = multipliers.len();
-    if n == 0 {
+    if multipliers.is_empty() {
         return 1.0;
     }
-    let at = (period as usize) % n;
-    multipliers[at]
+    multipliers[(period as usize) % multipliers.len()]
 }

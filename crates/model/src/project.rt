@@ -1,12 +1,12 @@
+#![tactic(auto, using(crate::proofs::Nan::zero_over_zero))]
 // The tables of a project.
 ghost use Rattle.std.specs.Prelude.{◌≡◌};
 ghost use Rattle.model.specs.Blank.{blank_node, blank_link, blank_control, blank_premise, blank_options, no_counts, empty_project};
 
-use crate::control::{Control, ControlCondition, SettingAction, StatusAction};
+use crate::control::{Control, ControlCondition};
 use crate::link::{Link, LinkType};
 use crate::node::{Node, NodeType, Reservoir};
 use crate::options::Options;
-use crate::pattern::PatternIndex;
 use crate::rule::{
     ConditionValue, NodeAttribute, Premise, RuleConditionOperator, RuleConditionTarget,
 };
@@ -40,7 +40,7 @@ pub fn blank_node() -> Node
 {
     let reservoir = Reservoir {
         elevation: 0.0 / 0.0,
-        head_pattern: PatternIndex::NoPattern,
+        head_pattern: None,
     };
     Node {
         kind: NodeType::Reservoir(reservoir),
@@ -69,8 +69,8 @@ pub fn blank_control() -> Control
             target: 0.0 / 0.0,
         },
         link: 0,
-        status: StatusAction::KeepStatus,
-        setting: SettingAction::KeepSetting,
+        status: None,
+        setting: None,
     }
 }
 
@@ -97,7 +97,7 @@ pub fn blank_options() -> Options
         start_clock: 0,
         skip: false,
         pda: false,
-        default_pattern: PatternIndex::NoPattern,
+        default_pattern: None,
         demand_multiplier: 0.0 / 0.0,
     }
 }

@@ -29,6 +29,7 @@ pub struct State {
 
 impl State {
     // A state with nothing in it, its clock at 0.
+    #[tactic(auto, using(crate::proofs::Nan::zero_over_zero), unfolding(crate::specs::Blank::blank_state))]
     pub fn blank() -> State
         ensures { result ≡ blank_state }
     {
@@ -49,7 +50,7 @@ impl State {
         State {
             nodes: [node; 256],
             links: [link; 384],
-            clock: clock,
+            clock,
         }
     }
 }

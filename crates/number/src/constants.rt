@@ -14,4 +14,5 @@ pub const L_TOL: f64 = 0.0001;
 pub const PSI_PER_FT: f64 = 0.4333;
 
 // The greatest usize: a time that never comes.
+// kept: document 01 answers this number, MAX, throughout, and prints it; an Option would be turned back into it at each use.
 pub const MAX: u64 = 18446744073709551615;

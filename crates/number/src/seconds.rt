@@ -21,6 +21,7 @@ pub fn round_to_u64(x: f64) -> u64
 }
 
 // Rust's `n as f64`: the nearest number, so that MAX gives 2^64.
+#[tactic(auto, unfolding(crate::specs::Seconds::u64_to_f64))]
 pub fn u64_to_f64(n: u64) -> f64
     ensures { result ≡ u64_to_f64 n }
 {

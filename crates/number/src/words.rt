@@ -14,6 +14,7 @@ fn from_bits(bits: u64) -> f64
 }
 
 // The f64 whose bits are these two words, low word first. What is not finite passes no range test.
+#[tactic(auto, unfolding(crate::specs::Words::from_words))]
 pub fn from_words(lo: u32, hi: u32) -> f64
     ensures { result ≡ from_words lo hi }
 {

@@ -4,6 +4,7 @@
 ghost use Rattle.std.specs.Prelude.{◌≡◌, ◌*◌, ◌<◌, length};
 ghost use Rattle.planes.specs.Planes.{turned, to_planes, from_planes, sized, planes_number, written};
 ghost use Rattle.planes.specs.Passes.{RowPut};
+ghost use Rattle.planes.specs.Refusals.{refused_number, answer_number};
 
 // The most rows of a block.
 const MOST_ROWS: usize = 512;
@@ -11,23 +12,24 @@ const MOST_ROWS: usize = 512;
 // The bytes of a row, and so the planes of a block.
 const ROW: usize = 8;
 
-// The number where the rows or a buffer's size are not right.
-const REFUSED: u32 = 13;
+// The rows or a buffer's size are not right.
+#[derive(Clone, Copy)]
+pub struct Refused;
+
+impl Refused {
+    // Document 02's number of it.
+    pub fn number(self) -> u32
+        ensures { result ≡ refused_number self }
+    {
+        13
+    }
+}
 
 // Whether there are 1 to 512 rows, and both buffers have 8 bytes for each.
 fn fit(rows: usize, from: usize, into: usize) -> bool
     ensures { result ≡ sized rows from into }
 {
-    if rows == 0 {
-        return false;
-    }
-    if MOST_ROWS < rows {
-        return false;
-    }
-    if from != ROW * rows {
-        return false;
-    }
-    into == ROW * rows
+    (1..=MOST_ROWS).contains(&rows) && from == ROW * rows && into == ROW * rows
 }
 
 // The bytes of one of n rows of w bytes, each put in its plane.
@@ -36,10 +38,8 @@ fn put_row(from: &[u8], into: &mut [u8], w: usize, n: usize, row: usize)
     ensures { RowPut w n from.now row w into.old into.new }
 {
     let start = w * row;
-    let mut byte = 0;
-    while byte < w {
+    for byte in 0..w {
         into[n * byte + row] = from[start + byte];
-        byte += 1;
     }
 }
 
@@ -48,33 +48,33 @@ fn turn(from: &[u8], into: &mut [u8], w: usize, n: usize)
     requires { (length from.now ≡ w * n) × (length into.old ≡ w * n) }
     ensures { into.new ≡ turned w n from.now }
 {
-    let mut row = 0;
-    while row < n {
+    for row in 0..n {
         put_row(from, into, w, n, row);
-        row += 1;
     }
 }
 
-// The block in planes, in a second buffer. Answers 0, or 13, and the second buffer is then as it was.
-pub fn to_planes(rows: usize, block: &[u8], planes: &mut [u8]) -> u32
-    ensures value { result ≡ planes_number rows (length block.now) (length planes.old) }
+// The block in planes, in a second buffer, which a refusal leaves as it was.
+#[tactic(auto, unfolding(crate::specs::Planes::planes_number, crate::specs::Planes::written))]
+pub fn to_planes(rows: usize, block: &[u8], planes: &mut [u8]) -> Result<(), Refused>
+    ensures value { answer_number result ≡ planes_number rows (length block.now) (length planes.old) }
     ensures planes_after { planes.new ≡ written to_planes rows block.now planes.old }
 {
     if !fit(rows, block.len(), planes.len()) {
-        return REFUSED;
+        return Err(Refused);
     }
     turn(block, planes, ROW, rows);
-    0
+    Ok(())
 }
 
 // The block back out of its planes. Answers as to_planes does.
-pub fn from_planes(rows: usize, planes: &[u8], block: &mut [u8]) -> u32
-    ensures value { result ≡ planes_number rows (length planes.now) (length block.old) }
+#[tactic(auto, unfolding(crate::specs::Planes::planes_number, crate::specs::Planes::written))]
+pub fn from_planes(rows: usize, planes: &[u8], block: &mut [u8]) -> Result<(), Refused>
+    ensures value { answer_number result ≡ planes_number rows (length planes.now) (length block.old) }
     ensures block_after { block.new ≡ written from_planes rows planes.now block.old }
 {
     if !fit(rows, planes.len(), block.len()) {
-        return REFUSED;
+        return Err(Refused);
     }
     turn(planes, block, rows, ROW);
-    0
+    Ok(())
 }

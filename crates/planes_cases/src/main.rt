@@ -4,13 +4,17 @@
 // or the planes; 3 (to planes) or 4 (from planes), the low and high word of the rows, and how often the call is made, at least once. Any other
 // word is passed over.
 // `compare/planes.py` makes the input and what has to come out.
+use planes::Refused;
 use replay_input::read_full;
 use std::io;
 use std::io::Read;
 
-const TO_PLANES: u32 = 3;
-
-const FROM_PLANES: u32 = 4;
+// Which way a call turns.
+#[derive(Clone, Copy)]
+enum Way {
+    ToPlanes,
+    FromPlanes,
+}
 
 // How many bytes at the start of each buffer are lent to a call.
 #[derive(Clone, Copy)]
@@ -62,60 +66,61 @@ fn print_answer(
     rt.print("\n")
 }
 
-fn call(code: u32, rows: usize, block: &mut [u8], planes: &mut [u8]) -> u32 {
-    if code == TO_PLANES {
-        return planes::to_planes(rows, block, planes);
+fn call(way: Way, rows: usize, block: &mut [u8], planes: &mut [u8]) -> Result<(), Refused> {
+    match way {
+        Way::ToPlanes => planes::to_planes(rows, block, planes),
+        Way::FromPlanes => planes::from_planes(rows, planes, block),
     }
-    planes::from_planes(rows, planes, block)
 }
 
 // The number of the last of so many calls.
-fn repeated(code: u32, rows: usize, times: u32, block: &mut [u8], planes: &mut [u8]) -> u32 {
-    let mut number = call(code, rows, block, planes);
-    let mut i = 1;
-    while i < times {
-        number = call(code, rows, block, planes);
-        i += 1;
+fn repeated(way: Way, rows: usize, times: u32, block: &mut [u8], planes: &mut [u8]) -> u32 {
+    let mut answer = call(way, rows, block, planes);
+    for _ in 1..times {
+        answer = call(way, rows, block, planes);
     }
-    number
+    match answer {
+        Ok(()) => 0,
+        Err(refused) => refused.number(),
+    }
 }
 
 fn run_call<R: Read>(
     from: &mut R,
     rt: &impl Print,
-    code: u32,
+    way: Way,
     block: &mut [u8],
     planes: &mut [u8],
 ) -> io::Result<()> {
     let rows = read_rows(from)?;
     let times = read_word(from)?;
-    let number = repeated(code, rows, times, block, planes);
-    if code == TO_PLANES {
-        rt.print("to")?;
-        return print_answer(rt, rows, block.len(), planes, number);
+    let number = repeated(way, rows, times, block, planes);
+    match way {
+        Way::ToPlanes => {
+            rt.print("to")?;
+            print_answer(rt, rows, block.len(), planes, number)
+        }
+        Way::FromPlanes => {
+            rt.print("from")?;
+            print_answer(rt, rows, planes.len(), block, number)
+        }
     }
-    rt.print("from")?;
-    print_answer(rt, rows, planes.len(), block, number)
 }
 
 // Makes a call on the bytes that are lent.
 fn lend<R: Read>(
     from: &mut R,
     rt: &impl Print,
-    code: u32,
+    way: Way,
     block: &mut [u8],
     planes: &mut [u8],
     sizes: Sizes,
 ) -> io::Result<()> {
-    let n = sizes.block;
-    let m = sizes.planes;
-    if block.len() < n {
+    let (Some(block), Some(planes)) = (block.get_mut(..sizes.block), planes.get_mut(..sizes.planes))
+    else {
         return Ok(());
-    }
-    if planes.len() < m {
-        return Ok(());
-    }
-    run_call(from, rt, code, &mut block[0..n], &mut planes[0..m])
+    };
+    run_call(from, rt, way, block, planes)
 }
 
 // Does what the next order says, and answers the sizes after it.
@@ -127,13 +132,12 @@ fn run_order<R: Read>(
     sizes: Sizes,
 ) -> io::Result<Sizes> {
     let mut after = sizes;
-    let code = read_word(from)?;
-    if code == 1 {
-        after.block = read_buffer(from, block)?;
-    } else if code == 2 {
-        after.planes = read_buffer(from, planes)?;
-    } else if (code == TO_PLANES) | (code == FROM_PLANES) {
-        lend(from, rt, code, block, planes, sizes)?;
+    match read_word(from)? {
+        1 => after.block = read_buffer(from, block)?,
+        2 => after.planes = read_buffer(from, planes)?,
+        3 => lend(from, rt, Way::ToPlanes, block, planes, sizes)?,
+        4 => lend(from, rt, Way::FromPlanes, block, planes, sizes)?,
+        _ => {}
     }
     Ok(after)
 }
@@ -149,10 +153,8 @@ fn run_orders<R: Read>(
         block: 0,
         planes: 0,
     };
-    let mut i = 0;
-    while i < n {
+    for _ in 0..n {
         sizes = run_order(from, rt, block, planes, sizes)?;
-        i += 1;
     }
     Ok(())
 }

@@ -13,10 +13,8 @@ fn looked_node(target: RuleConditionTarget) -> usize
     ensures { result ≡ looked_node target }
 {
     match target {
-        RuleConditionTarget::Node(i, _) => i,
-        RuleConditionTarget::Tank(i, _) => i,
-        RuleConditionTarget::Link(_, _) => 0,
-        RuleConditionTarget::System(_) => 0,
+        RuleConditionTarget::Node(i, _) | RuleConditionTarget::Tank(i, _) => i,
+        _ => 0,
     }
 }
 
@@ -25,10 +23,8 @@ fn looked_link(target: RuleConditionTarget) -> usize
     ensures { result ≡ looked_link target }
 {
     match target {
-        RuleConditionTarget::Node(_, _) => 0,
-        RuleConditionTarget::Tank(_, _) => 0,
         RuleConditionTarget::Link(i, _) => i,
-        RuleConditionTarget::System(_) => 0,
+        _ => 0,
     }
 }
 
@@ -39,11 +35,8 @@ fn total_demand(p: Project, s: State) -> f64
 {
     let n = p.counts.nodes;
     let mut total = 0.0;
-    let mut i = 0;
-    while i < n {
-        let x = s.nodes[i];
-        total = total + x.demand;
-        i += 1;
+    for i in 0..n {
+        total += s.nodes[i].demand;
     }
     total
 }
@@ -57,7 +50,7 @@ pub fn premise_truth_at(p: Project, s: State, i: usize) -> bool
     let time = s.clock.instant;
     let system = System {
         demand: total_demand(p, s),
-        time: time,
+        time,
         clock: clock_time(p.options.start_clock, time),
     };
     let q = p.premises[i];

@@ -14,16 +14,15 @@ pub enum Reach {
 }
 
 // The answer for a count of seconds as the Rust has it.
+#[tactic(auto, unfolding(crate::specs::Reach::reach_of))]
 pub fn reach_of(seconds: u64) -> Reach
     ensures { result ≡ reach_of seconds }
 {
-    if seconds == 0 {
-        return Reach::Arrived;
+    match seconds {
+        0 => Reach::Arrived,
+        MAX => Reach::Never,
+        n => Reach::Seconds(n),
     }
-    if seconds == MAX {
-        return Reach::Never;
-    }
-    Reach::Seconds(seconds)
 }
 
 // The seconds as the Rust has them, for the clock and for hours: 0 where the level is there, MAX where it never will be.

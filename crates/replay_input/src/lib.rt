@@ -29,10 +29,7 @@ pub fn read_full<R: Read>(from: &mut R, buf: &mut [u8]) -> io::Result<usize>
 pub fn read_bytes<R: Read>(from: &mut R, bytes: &mut [u8], at: usize, n: usize) -> io::Result<bool>
     ensures { IfOk result (λ there. there ≡ true → at + n ≤ length bytes.old) }
 {
-    if bytes.len() < at {
-        return Ok(false);
-    }
-    if bytes.len() - at < n {
+    if bytes.len() < at || bytes.len() - at < n {
         return Ok(false);
     }
     let end = at + n;
@@ -41,6 +38,8 @@ pub fn read_bytes<R: Read>(from: &mut R, bytes: &mut [u8], at: usize, n: usize) 
 }
 
 // Reads a count of words and the words to the start of a table, and answers how many; 0 where the count is 0, over 16,384 or cut.
+// kept: image::decode refuses 0 words, so 0 stands for all of these, and no caller asks which it was.
+#[tactic(auto, using(crate::proofs::Taking::taken_none))]
 pub fn read_image<R: Read>(from: &mut R, bytes: &mut [u8], table: &mut [u32]) -> io::Result<usize>
     ensures ok { IfOk result (λ n. Taken n bytes.new table.old table.new) }
     ensures err { OnErr result (table.new ≡ table.old) }
@@ -65,71 +64,58 @@ fn words_in(bytes: &[u8], n: usize, table: &mut [u32]) -> usize
     if bytes.len() / 4 < n {
         return 0;
     }
-    let size = n * 4;
-    words::words_of(&bytes[..size], table)
+    words::words_of(&bytes[..n * 4], table)
 }
 
 // Reads past n words, and answers whether they were there.
-fn pass_words<R: Read>(from: &mut R, bytes: &mut [u8], n: u32) -> io::Result<bool> {
-    let mut i = 0;
-    while i < n {
-        if !read_bytes(from, bytes, 0, 4)? {
+fn pass_words<R: Read>(from: &mut R, n: u32) -> io::Result<bool> {
+    let mut word = [0u8; 4];
+    for _ in 0..n {
+        if !read_bytes(from, &mut word, 0, 4)? {
             return Ok(false);
         }
-        i += 1;
     }
     Ok(true)
 }
 
 // Has the call's count say that its load is the longest that is passed on.
 fn put_longest(bytes: &mut [u8]) {
-    if bytes.len() < 8 {
-        return;
+    if let Some(count) = bytes.get_mut(4..8) {
+        count.copy_from_slice(&LONGEST.to_le_bytes());
     }
-    bytes[4] = (LONGEST % 256) as u8;
-    bytes[5] = (LONGEST / 256) as u8;
-    bytes[6] = 0;
-    bytes[7] = 0;
 }
 
-// Reads a load's count and words behind its code, and answers how many words the call has; 0 where it is cut.
-fn read_load<R: Read>(from: &mut R, bytes: &mut [u8]) -> io::Result<usize> {
+// Reads a load's count and words behind its code, and answers how many words the call has; none where it is cut.
+fn read_load<R: Read>(from: &mut R, bytes: &mut [u8]) -> io::Result<Option<usize>> {
     if !read_bytes(from, bytes, 4, 4)? {
-        return Ok(0);
+        return Ok(None);
     }
     let count = words::word_at(bytes, 4);
-    if count <= LONGEST {
-        if !read_bytes(from, bytes, 8, (count as usize) * 4)? {
-            return Ok(0);
+    let passed_on = count.min(LONGEST) as usize;
+    if !read_bytes(from, bytes, 8, passed_on * 4)? {
+        return Ok(None);
+    }
+    if LONGEST < count {
+        if !pass_words(from, count - LONGEST)? {
+            return Ok(None);
         }
-        return Ok(2 + (count as usize));
+        put_longest(bytes);
     }
-    if !read_bytes(from, bytes, 8, (LONGEST as usize) * 4)? {
-        return Ok(0);
-    }
-    let mut rest = [0u8; 4];
-    if !pass_words(from, &mut rest, count - LONGEST)? {
-        return Ok(0);
-    }
-    put_longest(bytes);
-    Ok(2 + (LONGEST as usize))
+    Ok(Some(2 + passed_on))
 }
 
-fn read_operands<R: Read>(from: &mut R, bytes: &mut [u8]) -> io::Result<usize> {
-    let code = words::word_at(bytes, 0);
-    if code == 3 {
-        return read_load(from, bytes);
+// Reads what stands behind a call's code, and answers how many words the call has; none where it is cut.
+fn read_operands<R: Read>(from: &mut R, bytes: &mut [u8]) -> io::Result<Option<usize>> {
+    match words::word_at(bytes, 0) {
+        3 => read_load(from, bytes),
+        6 => Ok(read_bytes(from, bytes, 4, 4)?.then_some(2)),
+        _ => Ok(Some(1)),
     }
-    if code == 6 {
-        if !read_bytes(from, bytes, 4, 4)? {
-            return Ok(0);
-        }
-        return Ok(2);
-    }
-    Ok(1)
 }
 
 // Reads a call's words to the start of a table, and answers how many; 0 where it is cut.
+// kept: list_words::call_ok refuses 0 words as it refuses another code, and no caller asks which it was.
+#[tactic(auto, using(crate::proofs::Taking::taken_none))]
 pub fn read_call<R: Read>(from: &mut R, bytes: &mut [u8], table: &mut [u32]) -> io::Result<usize>
     ensures ok { IfOk result (λ n. Taken n bytes.new table.old table.new) }
     ensures err { OnErr result (table.new ≡ table.old) }
@@ -138,5 +124,5 @@ pub fn read_call<R: Read>(from: &mut R, bytes: &mut [u8], table: &mut [u32]) -> 
         return Ok(0);
     }
     let n = read_operands(from, bytes)?;
-    Ok(words_in(bytes, n, table))
+    Ok(words_in(bytes, n.unwrap_or(0), table))
 }

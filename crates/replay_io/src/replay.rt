@@ -26,24 +26,23 @@ fn refuse<W: Write>(to: &mut W, out: &mut [u8], number: u32) -> io::Result<()> {
 // Runs a call, prints its line, and answers the state after it.
 fn replay_call<W: Write>(
     to: &mut W,
-    p: Project,
+    p: &Project,
     s: State,
     call: &[u32],
     out: &mut [u8],
 ) -> io::Result<State> {
     let code = image_entry::word(call, 0);
-    let o = list_call::first_call(p, s, call);
-    let state = o.state;
-    let n = put_call_line(out, code, o.number, o.length, o.truth, p.counts, state);
+    let o = list_call::first_call(*p, s, call);
+    let n = put_call_line(out, code, o.number, o.length, o.truth, p.counts, &o.state);
     write(to, out, n)?;
-    Ok(state)
+    Ok(o.state)
 }
 
 // The list of n calls, read and run as they come.
 fn replay_calls<R: Read, W: Write>(
     from: &mut R,
     to: &mut W,
-    p: Project,
+    p: &Project,
     s: State,
     n: u32,
     table: &mut [u32],
@@ -51,25 +50,19 @@ fn replay_calls<R: Read, W: Write>(
     out: &mut [u8],
 ) -> io::Result<()> {
     let mut state = s;
-    let mut i = 0;
-    while i < n {
+    for _ in 0..n {
         let k = read_call(from, bytes, table)?;
         if !call_ok(&table[..k]) {
             return refuse(to, out, BAD_LIST);
         }
         state = replay_call(to, p, state, &table[..k], out)?;
-        i += 1;
     }
     Ok(())
 }
 
-fn no_words() -> [u32; 16384] {
-    [0; 16384]
-}
-
 // What the image says. Its words are needed no longer than here.
 fn open_image<R: Read>(from: &mut R, bytes: &mut [u8]) -> io::Result<Decoded> {
-    let mut words = no_words();
+    let mut words = [0; 16384];
     let n = read_image(from, bytes, &mut words)?;
     Ok(image::decode(&words[..n]))
 }
@@ -93,18 +86,16 @@ pub fn transcribe<R: Read, W: Write>(
     out: &mut [u8],
 ) -> io::Result<()> {
     let read = open_image(from, bytes)?;
-    let fault = read.fault;
-    let project = read.project;
-    if fault != 0 {
-        return refuse(to, out, fault);
+    if let Some(fault) = read.fault {
+        return refuse(to, out, fault.number());
     }
-    let started = calls::new_with_initial_values(project);
-    let state = started.state;
-    let n = put_start_line(out, project.counts, state);
+    let project = read.project;
+    let state = calls::new_with_initial_values(project).state;
+    let n = put_start_line(out, project.counts, &state);
     write(to, out, n)?;
     if !read_bytes(from, bytes, 0, 4)? {
         return refuse(to, out, BAD_LIST);
     }
     let calls = words::word_at(bytes, 0);
-    replay_calls(from, to, project, state, calls, table, bytes, out)
+    replay_calls(from, to, &project, state, calls, table, bytes, out)
 }

@@ -1,11 +1,10 @@
 -- Pieces of a line put one behind the other, and how long they are. Assumes nothing.
-use Prim.Native.Nat.{ℕ, zero, suc, ◌+◌, ◌*◌, ◌/◌, ◌%◌, min, ◌≤◌, ◌<◌}
+use Prim.Native.Nat.{ℕ, zero, suc, ◌+◌, ◌*◌, ◌/◌, ◌%◌, min, ◌≤◌}
 use mathlib.Core.Path.{◌≡◌, refl, sym, ap, ◌∙◌}
 use mathlib.Core.Bool.{Bool, true, false, cond, ◌||◌}
 use mathlib.Core.List.{List, [], ◌∷◌, ◌++◌}
 use native.Mathlib.Numerals.{add-one}
 use native.Mathlib.Omega.{arith}
-use borrow.Author.Tests.{lt-ltb, le-ltb, ne_eqb}
 use lib.Dec.{eqb}
 use lib.Ieee.{Float}
 use lib.ListN.{length, length-append}
@@ -13,23 +12,16 @@ use Rattle.listing.specs.Numbers.{decimal_text}
 use Rattle.listing.specs.Text.{pasted, put, after}
 use Rattle.listing.proofs.Digits.{digits_count}
 use Rattle.listing.proofs.HexDigits.{hex_length}
-use Rattle.listing.proofs.Pasting.{Put, put_as, put_fits, pasted_length, pasted_more}
+use Rattle.listing.proofs.Pasting.{put_fits, pasted_length, pasted_more}
 use Rattle.model.specs.Blank.{node_state_at, link_state_at}
 use Rattle.model.specs.declared.project.Counts.{Counts}
 use Rattle.model.specs.declared.state.LinkState.{LinkState}
 use Rattle.model.specs.declared.state.NodeState.{NodeState}
 use Rattle.model.specs.declared.state.State.{State}
-use Rattle.replay_text.specs.Lines.{word_text, number_text, node_text, link_text, nodes_text, links_text, state_text, name_text, truth_text, given_text, refused_text, answer_text, written, size}
+use Rattle.replay_text.specs.Lines.{word_text, number_text, node_text, link_text, nodes_text, links_text, state_text, name_text, truth_text, given_text, refused_text, answer_text}
 
 -- ---- one piece, and two
 module _ (buf : List ℕ) (at : ℕ) where
-  -- a piece that is known to have room, by another spelling of it
-  pub fits : {text : List ℕ} (other : List ℕ) {now : List ℕ} {r : ℕ} → text ≡ other → at + length other ≤ length buf → r ≡ after buf at text → now ≡ put buf at text
-      → (r ≡ at + length other) × (now ≡ pasted buf at other)
-  fits {text} other {now} {r} e h q w =
-      let p = put_fits {buf = buf} {at = at} other {now = now} {r = r} h (q ∙ ap (λ (t : List ℕ). after buf at t) e) (w ∙ ap (λ (t : List ℕ). put buf at t) e) in
-      (p.place, p.made)
-
   pub both : (a b : List ℕ) {mid now : List ℕ} {i j : ℕ} → at + (length a + length b) ≤ length buf → (i ≡ at + length a) × (mid ≡ pasted buf at a)
       → (j ≡ i + length b) × (now ≡ pasted mid i b) → (j ≡ at + length (a ++ b)) × (now ≡ pasted buf at (a ++ b))
   both a b {mid} {now} {i} {j} h p q =
@@ -45,10 +37,18 @@ module _ (buf : List ℕ) (at : ℕ) where
       let f = put_fits {buf = mid} {at = i} b {now = now} {r = j} (omega (arith, p.0, same)) e q in
       both a b h p (f.place, f.made)
 
--- the end of a loop that put its pieces one by one
-pub put_all : (piece : ℕ → List ℕ) {i n : ℕ} {buf : List ℕ} {at : ℕ} {now : List ℕ} {pos : ℕ} → i ≡ n → Put buf at (piece i) now pos
-    → (pos ≡ at + length (piece n)) × (now ≡ pasted buf at (piece n))
-put_all piece e p = let q = put_as (ap piece e) p in (q.place, q.made)
+-- one piece after another is both of them at once
+pub pasted_both : (buf : List ℕ) (at : ℕ) (a b : List ℕ) (i : ℕ) → i ≡ at + length a → at + length a ≤ length buf → pasted (pasted buf at a) i b ≡ pasted buf at (a ++ b)
+pasted_both buf at a b i e room = rw e (pasted_more buf at a room b)
+
+pub pasted_three : (buf : List ℕ) (at : ℕ) (a b d : List ℕ) (i j : ℕ) → i ≡ at + length a → j ≡ i + length b → at + (length a + length b) ≤ length buf
+    → pasted (pasted (pasted buf at a) i b) j d ≡ pasted buf at ((a ++ b) ++ d)
+pasted_three buf at a b d i j e q room =
+    let n : length (a ++ b) ≡ length a + length b = length-append a b in
+    rw (pasted_both buf at a b i e (omega arith)) (pasted_both buf at (a ++ b) d j (omega arith) (omega arith))
+
+pub decimal_short : (n : ℕ) → length (decimal_text n) ≤ 10
+decimal_short n = (digits_count 9 n).1
 
 -- ---- the words of a state
 pub word_length : (w : ℕ) → length (word_text w) ≡ 17
@@ -97,39 +97,6 @@ either_short m true x y p q = p
 either_short m false x y p q = q
 
 module _ (code : ℕ) where
-  pub name_1 : code ≡ 1 → (112 ∷ 97 ∷ 116 ∷ 116 ∷ 101 ∷ 114 ∷ 110 ∷ 115 ∷ 32 ∷ []) ≡ name_text code
-  unfolding name_text
-  name_1 e = rw e
-
-  pub name_2 : code ≡ 2 → (99 ∷ 111 ∷ 110 ∷ 116 ∷ 114 ∷ 111 ∷ 108 ∷ 115 ∷ 32 ∷ []) ≡ name_text code
-  unfolding name_text
-  name_2 e = rw e
-
-  pub name_3 : code ≡ 3 → (108 ∷ 111 ∷ 97 ∷ 100 ∷ 32 ∷ []) ≡ name_text code
-  unfolding name_text
-  name_3 e = rw e
-
-  -- closing, by the table or not
-  pub name_4 : (code ≡ 1 → ⊥) → (code ≡ 2 → ⊥) → (code ≡ 3 → ⊥) → (eqb code 4 || eqb code 9) ≡ true → (99 ∷ 108 ∷ 111 ∷ 115 ∷ 101 ∷ 32 ∷ []) ≡ name_text code
-  unfolding name_text
-  name_4 a b c e = rw (ne_eqb code 1 a, ne_eqb code 2 b, ne_eqb code 3 c, e)
-
-  pub name_5 : code ≡ 5 → (112 ∷ 114 ∷ 101 ∷ 115 ∷ 115 ∷ 117 ∷ 114 ∷ 101 ∷ 32 ∷ []) ≡ name_text code
-  unfolding name_text
-  name_5 e = rw e
-
-  pub name_6 : code ≡ 6 → (112 ∷ 114 ∷ 101 ∷ 109 ∷ 105 ∷ 115 ∷ 101 ∷ 32 ∷ []) ≡ name_text code
-  unfolding name_text
-  name_6 e = rw e
-
-  pub name_7 : code ≡ 7 → (115 ∷ 116 ∷ 101 ∷ 112 ∷ 32 ∷ []) ≡ name_text code
-  unfolding name_text
-  name_7 e = rw e
-
-  pub name_8 : (code ≡ 1 → ⊥) → (code ≡ 2 → ⊥) → (code ≡ 3 → ⊥) → (eqb code 4 || eqb code 9) ≡ false → (code ≡ 5 → ⊥) → (code ≡ 6 → ⊥) → (code ≡ 7 → ⊥) → (115 ∷ 108 ∷ 111 ∷ 119 ∷ 32 ∷ []) ≡ name_text code
-  unfolding name_text
-  name_8 a b c d e f g = rw (ne_eqb code 1 a, ne_eqb code 2 b, ne_eqb code 3 c, d, ne_eqb code 5 e, ne_eqb code 6 f, ne_eqb code 7 g)
-
   pub name_short : length (name_text code) ≤ 9
   unfolding name_text
   name_short =
@@ -139,36 +106,12 @@ module _ (code : ℕ) where
       (either_short 9 (eqb code 4 || eqb code 9) _ _ (omega arith)
       (either_short 9 (eqb code 5) _ _ (omega arith) (either_short 9 (eqb code 6) _ _ (omega arith) (either_short 9 (eqb code 7) _ _ (omega arith) (omega arith)))))))
 
-pub truth_true : (b : Bool) → b ≡ true → (116 ∷ 114 ∷ 117 ∷ 101 ∷ []) ≡ truth_text b
-unfolding truth_text
-truth_true b e = rw e
-
-pub truth_false : (b : Bool) → b ≡ false → (102 ∷ 97 ∷ 108 ∷ 115 ∷ 101 ∷ []) ≡ truth_text b
-unfolding truth_text
-truth_false b e = rw e
-
 pub truth_short : (b : Bool) → length (truth_text b) ≤ 5
 unfolding truth_text
 truth_short true = omega arith
 truth_short false = omega arith
 
 module _ (code seconds : ℕ) (truth : Bool) where
-  pub given_length : (eqb code 7 || eqb code 8) ≡ true → decimal_text seconds ≡ given_text code seconds truth
-  unfolding given_text
-  given_length e = rw e
-
-  pub given_6 : code ≡ 6 → truth_text truth ≡ given_text code seconds truth
-  unfolding given_text
-  given_6 e = rw e
-
-  pub given_5 : code ≡ 5 → truth_text truth ≡ given_text code seconds truth
-  unfolding given_text
-  given_5 e = rw e
-
-  pub given_ok : (eqb code 7 || eqb code 8) ≡ false → (code ≡ 6 → ⊥) → (code ≡ 5 → ⊥) → (111 ∷ 107 ∷ []) ≡ given_text code seconds truth
-  unfolding given_text
-  given_ok a b c = rw (a, ne_eqb code 6 b, ne_eqb code 5 c)
-
   pub given_short : length (given_text code seconds truth) ≤ 10
   unfolding given_text
   given_short =
@@ -228,11 +171,3 @@ module _ (buf : List ℕ) (at : ℕ) (c : Counts) (s : State) {nodes links : ℕ
       let three = both buf at (a ++ b) x (omega (arith, room, u, v, w, ab, few)) two n in
       let four = both buf at ((a ++ b) ++ x) y (omega (arith, room, u, v, w, z, ab, abx, few, few_links)) three m in
       rw (← few, ← few_links) (both_put buf at (((a ++ b) ++ x) ++ y) (10 ∷ []) (omega (arith, room, u, v, w, z, ab, abx, abxy, few, few_links)) four e f)
-
--- a line in a buffer with room for the longest, and in a smaller one
-module _ (buf line : List ℕ) where
-  pub line_put : {now : List ℕ} {r : ℕ} → 32702 ≤ length buf → (r ≡ 0 + length line) × (now ≡ pasted buf 0 line) → (r ≡ size buf line) × (now ≡ written buf line)
-  line_put h p = let t = le-ltb (length buf) 32702 h in (rw t (omega (arith, p.0)), rw t p.1)
-
-  pub line_none : length buf < 32702 → (0 ≡ size buf line) × (buf ≡ written buf line)
-  line_none h = let t = lt-ltb (length buf) 32702 h in (rw t, rw t)

@@ -6,64 +6,52 @@ ghost use Rattle.replay_text.specs.Lines.{name_text, truth_text, given_text, ref
 use listing::{put_decimal, put_text};
 
 // The name of a call by its code.
+#[tactic(auto, unfolding(crate::specs::Lines::name_text))]
 fn put_name(out: &mut [u8], at: usize, code: u32) -> usize
     requires { at + 9 ≤ length out.old }
     ensures value { result ≡ at + length (name_text code) }
     ensures out_after { out.new ≡ pasted out.old at (name_text code) }
 {
-    if code == 1 {
-        return put_text(out, at, b"patterns ");
+    match code {
+        1 => put_text(out, at, b"patterns "),
+        2 => put_text(out, at, b"controls "),
+        3 => put_text(out, at, b"load "),
+        4 | 9 => put_text(out, at, b"close "),
+        5 => put_text(out, at, b"pressure "),
+        6 => put_text(out, at, b"premise "),
+        7 => put_text(out, at, b"step "),
+        _ => put_text(out, at, b"slow "),
     }
-    if code == 2 {
-        return put_text(out, at, b"controls ");
-    }
-    if code == 3 {
-        return put_text(out, at, b"load ");
-    }
-    if (code == 4) | (code == 9) {
-        return put_text(out, at, b"close ");
-    }
-    if code == 5 {
-        return put_text(out, at, b"pressure ");
-    }
-    if code == 6 {
-        return put_text(out, at, b"premise ");
-    }
-    if code == 7 {
-        return put_text(out, at, b"step ");
-    }
-    put_text(out, at, b"slow ")
 }
 
+#[tactic(auto, unfolding(crate::specs::Lines::truth_text))]
 fn put_truth(out: &mut [u8], at: usize, b: bool) -> usize
     requires { at + 5 ≤ length out.old }
     ensures value { result ≡ at + length (truth_text b) }
     ensures out_after { out.new ≡ pasted out.old at (truth_text b) }
 {
     if b {
-        return put_text(out, at, b"true");
+        put_text(out, at, b"true")
+    } else {
+        put_text(out, at, b"false")
     }
-    put_text(out, at, b"false")
 }
 
 // What a call that was not refused gives: a length, a truth, or that it is done.
+#[tactic(auto, using(crate::proofs::Pieces::decimal_short, crate::proofs::Pieces::truth_short), unfolding(crate::specs::Lines::given_text))]
 fn put_given(out: &mut [u8], at: usize, code: u32, seconds: u32, truth: bool) -> usize
     requires { at + 10 ≤ length out.old }
     ensures value { result ≡ at + length (given_text code seconds truth) }
     ensures out_after { out.new ≡ pasted out.old at (given_text code seconds truth) }
 {
-    if (code == 7) | (code == 8) {
-        return put_decimal(out, at, seconds);
+    match code {
+        7 | 8 => put_decimal(out, at, seconds),
+        5 | 6 => put_truth(out, at, truth),
+        _ => put_text(out, at, b"ok"),
     }
-    if code == 6 {
-        return put_truth(out, at, truth);
-    }
-    if code == 5 {
-        return put_truth(out, at, truth);
-    }
-    put_text(out, at, b"ok")
 }
 
+#[tactic(auto, using(crate::proofs::Pieces::pasted_both, crate::proofs::Pieces::decimal_short), unfolding(crate::specs::Lines::refused_text))]
 fn put_refused(out: &mut [u8], at: usize, number: u32) -> usize
     requires { at + 18 ≤ length out.old }
     ensures value { result ≡ at + length (refused_text number) }
@@ -74,6 +62,7 @@ fn put_refused(out: &mut [u8], at: usize, number: u32) -> usize
 }
 
 // The name of a call and what it answered.
+#[tactic(auto, using(crate::proofs::Pieces::pasted_both, crate::proofs::Pieces::name_short), unfolding(crate::specs::Lines::answer_text))]
 pub fn put_answer(
     out: &mut [u8],
     at: usize,
@@ -88,7 +77,8 @@ pub fn put_answer(
 {
     let i = put_name(out, at, code);
     if number == 0 {
-        return put_given(out, i, code, seconds, truth);
+        put_given(out, i, code, seconds, truth)
+    } else {
+        put_refused(out, i, number)
     }
-    put_refused(out, i, number)
 }

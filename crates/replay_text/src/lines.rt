@@ -11,24 +11,15 @@ use model::*;
 // 27 bytes of an answer, 35 of instant, count and the line's end, and 51 of each of 256 nodes and 384 links.
 const LONGEST_LINE: usize = 32702;
 
-// A count, and no more than a table holds.
-fn fewer(count: usize, most: usize) -> usize
-    ensures { result ≡ min count most }
-{
-    if count < most {
-        return count;
-    }
-    most
-}
-
 // Instant and count, then nodes and links, and the line's end.
-fn put_state(out: &mut [u8], at: usize, counts: Counts, s: State) -> usize
+#[tactic(auto, using(crate::proofs::Pieces::word_length, crate::proofs::Pieces::nodes_length, crate::proofs::Pieces::links_length))]
+fn put_state(out: &mut [u8], at: usize, counts: Counts, s: &State) -> usize
     requires { at + 32675 ≤ length out.old }
-    ensures value { result ≡ at + length (state_text counts s) }
-    ensures out_after { out.new ≡ pasted out.old at (state_text counts s) }
+    ensures value { result ≡ at + length (state_text counts s.now) }
+    ensures out_after { out.new ≡ pasted out.old at (state_text counts s.now) }
 {
-    let nodes = fewer(counts.nodes, 256);
-    let links = fewer(counts.links, 384);
+    let nodes = counts.nodes.min(256);
+    let links = counts.links.min(384);
     let i = put_word(out, at, s.clock.instant as u64);
     let j = put_word(out, i, s.clock.count as u64);
     let k = put_nodes(out, j, nodes, s);
@@ -37,9 +28,10 @@ fn put_state(out: &mut [u8], at: usize, counts: Counts, s: State) -> usize
 }
 
 // The line of the start.
-pub fn put_start_line(out: &mut [u8], counts: Counts, s: State) -> usize
-    ensures value { result ≡ size out.old (start_line counts s) }
-    ensures out_after { out.new ≡ written out.old (start_line counts s) }
+#[tactic(auto, using(crate::proofs::Pieces::pasted_both, crate::proofs::Pieces::state_short))]
+pub fn put_start_line(out: &mut [u8], counts: Counts, s: &State) -> usize
+    ensures value { result ≡ size out.old (start_line counts s.now) }
+    ensures out_after { out.new ≡ written out.old (start_line counts s.now) }
 {
     if out.len() < LONGEST_LINE {
         return 0;
@@ -49,6 +41,8 @@ pub fn put_start_line(out: &mut [u8], counts: Counts, s: State) -> usize
 }
 
 // The line of a call: its code, the number of its refusal or 0, a step's length, a truth, and the state after it.
+// kept: the code, the number and the values beside it are as list_call::first_call takes and answers them.
+#[tactic(auto, using(crate::proofs::Pieces::pasted_both, crate::proofs::Pieces::answer_short, crate::proofs::Pieces::state_short))]
 pub fn put_call_line(
     out: &mut [u8],
     code: u32,
@@ -56,10 +50,10 @@ pub fn put_call_line(
     seconds: u32,
     truth: bool,
     counts: Counts,
-    s: State,
+    s: &State,
 ) -> usize
-    ensures value { result ≡ size out.old (call_line code number seconds truth counts s) }
-    ensures out_after { out.new ≡ written out.old (call_line code number seconds truth counts s) }
+    ensures value { result ≡ size out.old (call_line code number seconds truth counts s.now) }
+    ensures out_after { out.new ≡ written out.old (call_line code number seconds truth counts s.now) }
 {
     if out.len() < LONGEST_LINE {
         return 0;

@@ -6,6 +6,7 @@ ghost use Rattle.replay_text.specs.Lines.{word_text, number_text, node_text, lin
 use listing::put_hex;
 use model::*;
 
+#[tactic(auto, using(crate::proofs::Pieces::word_length), unfolding(crate::specs::Lines::word_text))]
 pub fn put_word(out: &mut [u8], at: usize, w: u64) -> usize
     requires { at + 17 ≤ length out.old }
     ensures value { result ≡ at + length (word_text w) }
@@ -19,6 +20,7 @@ pub fn put_word(out: &mut [u8], at: usize, w: u64) -> usize
     )
 }
 
+#[tactic(auto, unfolding(crate::specs::Lines::number_text))]
 fn put_number(out: &mut [u8], at: usize, x: f64) -> usize
     requires { at + 17 ≤ length out.old }
     ensures value { result ≡ at + length (number_text x) }
@@ -27,6 +29,7 @@ fn put_number(out: &mut [u8], at: usize, x: f64) -> usize
     put_word(out, at, number::to_bits(x))
 }
 
+#[tactic(auto, using(crate::proofs::Pieces::pasted_three, crate::proofs::Pieces::number_length), unfolding(crate::specs::Lines::node_text))]
 fn put_node(out: &mut [u8], at: usize, x: NodeState) -> usize
     requires { at + 51 ≤ length out.old }
     ensures value { result ≡ at + length (node_text x) }
@@ -37,6 +40,7 @@ fn put_node(out: &mut [u8], at: usize, x: NodeState) -> usize
     put_number(out, j, x.demand_flow)
 }
 
+#[tactic(auto, using(crate::proofs::Pieces::pasted_three, crate::proofs::Pieces::number_length, crate::proofs::Pieces::word_length), unfolding(crate::specs::Lines::link_text))]
 fn put_link(out: &mut [u8], at: usize, x: LinkState) -> usize
     requires { at + 51 ≤ length out.old }
     ensures value { result ≡ at + length (link_text x) }
@@ -48,33 +52,29 @@ fn put_link(out: &mut [u8], at: usize, x: LinkState) -> usize
 }
 
 // The first n nodes.
-pub fn put_nodes(out: &mut [u8], at: usize, n: usize, s: State) -> usize
+pub fn put_nodes(out: &mut [u8], at: usize, n: usize, s: &State) -> usize
     requires n_bound { n ≤ 256 }
     requires n_in_bounds { at + n * 51 ≤ length out.old }
-    ensures value { result ≡ at + length (nodes_text n s) }
-    ensures out_after { out.new ≡ pasted out.old at (nodes_text n s) }
+    ensures value { result ≡ at + length (nodes_text n s.now) }
+    ensures out_after { out.new ≡ pasted out.old at (nodes_text n s.now) }
 {
     let mut o = at;
-    let mut i = 0;
-    while i < n {
+    for i in 0..n {
         o = put_node(out, o, s.nodes[i]);
-        i += 1;
     }
     o
 }
 
 // The first n links.
-pub fn put_links(out: &mut [u8], at: usize, n: usize, s: State) -> usize
+pub fn put_links(out: &mut [u8], at: usize, n: usize, s: &State) -> usize
     requires n_bound { n ≤ 384 }
     requires n_in_bounds { at + n * 51 ≤ length out.old }
-    ensures value { result ≡ at + length (links_text n s) }
-    ensures out_after { out.new ≡ pasted out.old at (links_text n s) }
+    ensures value { result ≡ at + length (links_text n s.now) }
+    ensures out_after { out.new ≡ pasted out.old at (links_text n s.now) }
 {
     let mut o = at;
-    let mut i = 0;
-    while i < n {
+    for i in 0..n {
         o = put_link(out, o, s.links[i]);
-        i += 1;
     }
     o
 }

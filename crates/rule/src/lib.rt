@@ -22,8 +22,7 @@ fn number_truth(c: ComparisonOperator, x: f64, v: ConditionValue) -> bool
 {
     match v {
         ConditionValue::Number(y) => c.compare_f64(x, y),
-        ConditionValue::Status(_) => false,
-        ConditionValue::Time(_) => false,
+        _ => false,
     }
 }
 
@@ -33,8 +32,8 @@ fn time_truth(c: ComparisonOperator, x: f64, v: ConditionValue) -> bool
 {
     match v {
         ConditionValue::Number(y) => c.compare_f64(x, y),
+        ConditionValue::Time(t) => c.compare_f64(x, u64_to_f64(u64::from(t))),
         ConditionValue::Status(_) => false,
-        ConditionValue::Time(t) => c.compare_f64(x, u64_to_f64(t as u64)),
     }
 }
 
@@ -44,10 +43,7 @@ fn compare_status(c: ComparisonOperator, lhs: u32, rhs: u32) -> bool
     match c {
         ComparisonOperator::Eq => lhs == rhs,
         ComparisonOperator::Ne => lhs != rhs,
-        ComparisonOperator::Gt => false,
-        ComparisonOperator::Lt => false,
-        ComparisonOperator::Ge => false,
-        ComparisonOperator::Le => false,
+        _ => false,
     }
 }
 
@@ -56,21 +52,18 @@ fn status_truth(c: ComparisonOperator, x: u32, v: ConditionValue) -> bool
     ensures { result ≡ status_truth c x v }
 {
     match v {
-        ConditionValue::Number(_) => false,
         ConditionValue::Status(y) => compare_status(c, x, y),
-        ConditionValue::Time(_) => false,
+        _ => false,
     }
 }
 
 fn node_value(a: NodeAttribute, n: Node, s: NodeState) -> f64
     ensures { result ≡ node_value a n s }
 {
-    let head = s.head;
-    let demand = s.demand;
     match a {
-        NodeAttribute::Demand => demand,
-        NodeAttribute::Head => head,
-        NodeAttribute::Pressure => (head - n.elevation()) * PSI_PER_FT,
+        NodeAttribute::Demand => s.demand,
+        NodeAttribute::Head => s.head,
+        NodeAttribute::Pressure => (s.head - n.elevation()) * PSI_PER_FT,
     }
 }
 
@@ -78,17 +71,15 @@ fn node_value(a: NodeAttribute, n: Node, s: NodeState) -> f64
 fn tank_value(a: TankAttribute, t: Tank, s: NodeState) -> f64
     ensures { result ≡ tank_value a t s }
 {
-    let level = s.head - t.elevation.0;
+    let level = Feet(s.head - t.elevation.0);
     let flow = CubicFeetPerSecond(s.demand);
-    let greatest = t.max_level;
-    let least = t.min_level;
     match a {
-        TankAttribute::Level => level,
+        TankAttribute::Level => level.0,
         TankAttribute::FillTime => {
-            u64_to_f64(t.time_to_reach_level(Feet(level), greatest, flow)) / 3600.0
+            u64_to_f64(t.time_to_reach_level(level, t.max_level, flow)) / 3600.0
         }
         TankAttribute::DrainTime => {
-            u64_to_f64(t.time_to_reach_level(Feet(level), least, flow)) / 3600.0
+            u64_to_f64(t.time_to_reach_level(level, t.min_level, flow)) / 3600.0
         }
     }
 }
@@ -102,37 +93,29 @@ fn tank_truth(
 ) -> bool
     ensures { result ≡ tank_truth a n.kind s c v }
 {
-    let kind = n.kind;
-    match kind {
-        NodeType::Reservoir(_) => false,
+    match n.kind {
         NodeType::Tank(t) => number_truth(c, tank_value(a, t, s), v),
-        NodeType::Junction(_) => false,
+        _ => false,
     }
 }
 
 fn link_truth(a: LinkAttribute, s: LinkState, c: ComparisonOperator, v: ConditionValue) -> bool
     ensures { result ≡ link_truth a s c v }
 {
-    let flow = s.flow;
-    let status = s.status;
-    let setting = s.setting;
     match a {
-        LinkAttribute::Flow => number_truth(c, abs(flow), v),
-        LinkAttribute::Status => status_truth(c, status, v),
-        LinkAttribute::Setting => number_truth(c, setting, v),
+        LinkAttribute::Flow => number_truth(c, abs(s.flow), v),
+        LinkAttribute::Status => status_truth(c, s.status, v),
+        LinkAttribute::Setting => number_truth(c, s.setting, v),
     }
 }
 
 fn system_value(a: SystemAttribute, y: System) -> f64
     ensures { result ≡ system_value a y }
 {
-    let demand = y.demand;
-    let time = y.time;
-    let clock = y.clock;
     match a {
-        SystemAttribute::Demand => demand,
-        SystemAttribute::Time => u64_to_f64(time as u64),
-        SystemAttribute::ClockTime => u64_to_f64(clock),
+        SystemAttribute::Demand => y.demand,
+        SystemAttribute::Time => u64_to_f64(u64::from(y.time)),
+        SystemAttribute::ClockTime => u64_to_f64(y.clock),
     }
 }
 
@@ -146,10 +129,9 @@ pub fn premise_truth(
 ) -> bool
     ensures { result ≡ premise_truth premise node node_state link_state system }
 {
-    let target = premise.target;
     let c = premise.comparison;
     let v = premise.value;
-    match target {
+    match premise.target {
         RuleConditionTarget::Node(_, a) => number_truth(c, node_value(a, node, node_state), v),
         RuleConditionTarget::Tank(_, a) => tank_truth(a, node, node_state, c, v),
         RuleConditionTarget::Link(_, a) => link_truth(a, link_state, c, v),

@@ -8,6 +8,10 @@ use Rattle.model.specs.Loops.{through}
 use Rattle.run_tables.specs.Rows.{tank_at}
 use Rattle.tank.specs.Tanks.{time_to_reach_level}
 
+-- a turn over the seconds of one kind
+abbrev pub or_smaller : (ℕ → ℕ) → List ℕ → ℕ → ℕ → ℕ
+or_smaller of seconds i smallest = smaller_positive (of (get_or seconds i 0)) smallest
+
 -- times
 abbrev pub time_turn : List ℕ → ℕ → ℕ → ℕ → ℕ
 time_turn seconds time i smallest = smaller_positive (time_candidate (get_or seconds i 0) time) smallest

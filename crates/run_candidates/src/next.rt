@@ -1,69 +1,90 @@
 // The smallest candidate over a list that is not 0: one list goes on from where another ended.
-ghost use Rattle.std.specs.Prelude.{◌≡◌, ◌≤◌};
+ghost use Rattle.std.specs.Prelude.{ℕ, ◌≡◌};
+ghost use Rattle.model.specs.Loops.{through};
+ghost use Rattle.number.specs.Constants.{MAX};
 ghost use Rattle.run_kinds.specs.Levels.{LevelsInside};
-ghost use Rattle.run_candidates.specs.Next.{next_time, next_clock, next_level};
+ghost use Rattle.run_candidates.specs.Next.{or_smaller, next_time, next_clock, next_level};
 
 use clock::{clock_candidate, smaller_positive, time_candidate};
-use run_tables::tank_at;
+use number::constants::MAX;
+use run_kinds::{Calls, Levels, Seconds};
+use run_tables::TankTable;
 use tank::{CubicFeetPerSecond, Feet};
 
-// Time controls.
-pub fn next_time(seconds: &[u32; 64], n: usize, time: u32, from: u64) -> u64
-    requires { n ≤ 64 }
-    ensures { result ≡ next_time seconds.now n time from }
+// Over the seconds of one kind, from a first value.
+fn smallest<F: Fn(u32) -> u64>(s: &Seconds, from: u64, candidate: F) -> u64
+    ghost of: { ℕ → ℕ }
+    requires callable { F.IsAlwaysCallable candidate }
+    requires candidates { (x r : ℕ) → F.post candidate x r → r ≡ of x }
+    ensures { result ≡ through s.now.count (or_smaller of s.now.seconds) from }
 {
     let mut smallest = from;
-    let mut i = 0;
-    while i < n {
-        smallest = smaller_positive(time_candidate(seconds[i], time), smallest);
-        i += 1;
+    for i in 0..s.count {
+        smallest = smaller_positive(candidate(s.seconds[i]), smallest);
     }
     smallest
+}
+
+// Time controls.
+#[tactic(auto, unfolding(crate::specs::Next::next_time))]
+pub fn next_time(s: &Seconds, time: u32, from: u64) -> u64
+    ensures { result ≡ next_time s.now.seconds s.now.count time from }
+{
+    smallest(s, from, |at| time_candidate(at, time))
 }
 
 // Clock controls.
-pub fn next_clock(seconds: &[u32; 64], n: usize, clock: u64, from: u64) -> u64
-    requires { n ≤ 64 }
-    ensures { result ≡ next_clock seconds.now n clock from }
+#[tactic(auto, unfolding(crate::specs::Next::next_clock))]
+pub fn next_clock(s: &Seconds, clock: u64, from: u64) -> u64
+    ensures { result ≡ next_clock s.now.seconds s.now.count clock from }
+{
+    smallest(s, from, |at| clock_candidate(at, clock))
+}
+
+// Level controls.
+pub fn next_level(
+    l: &Levels,
+    t: &TankTable,
+    heads: &[f64; 256],
+    demands: &[f64; 256],
+    from: u64,
+) -> u64
+    requires { LevelsInside l.now.tanks l.now.count t.now.at.nodes }
+    ensures { result ≡ next_level l.now.tanks l.now.targets l.now.count t.now.at.nodes t.now.numbers t.now.overflows heads.now demands.now from }
 {
     let mut smallest = from;
-    let mut i = 0;
-    while i < n {
-        smallest = smaller_positive(clock_candidate(seconds[i], clock), smallest);
-        i += 1;
+    for i in 0..l.count {
+        let k = l.tanks[i] as usize;
+        let j = t.at.nodes[k] as usize;
+        let tank = t.tank(k);
+        let wait = tank.time_to_reach_level(
+            Feet(heads[j] - tank.elevation.0),
+            Feet(l.targets[i]),
+            CubicFeetPerSecond(demands[j]),
+        );
+        smallest = smaller_positive(wait, smallest);
     }
     smallest
 }
 
-// Level controls: call i waits for tank tanks[i] to be at targets[i].
-pub fn next_level<'a>(
-    tanks: &'a [u32; 64],
-    targets: &'a [f64; 64],
-    n: usize,
-    nodes: &'a [u32; 256],
-    numbers: &'a [f64; 1280],
-    overflows: &'a [u32; 256],
-    heads: &'a [f64; 256],
-    demands: &'a [f64; 256],
-    from: u64,
+// All of them: levels, times, clock times.
+pub fn control_time(
+    calls: &Calls,
+    t: &TankTable,
+    heads: &[f64; 256],
+    demands: &[f64; 256],
+    time: u32,
+    clock: u64,
 ) -> u64
-    requires n_bound { n ≤ 64 }
-    requires levels_inside { LevelsInside tanks.now n nodes.now }
-    ensures { result ≡ next_level tanks.now targets.now n nodes.now numbers.now overflows.now heads.now demands.now from }
+    requires { LevelsInside calls.now.levels.tanks calls.now.levels.count t.now.at.nodes }
+    ensures { result ≡ next_clock calls.now.clocks.seconds calls.now.clocks.count clock
+        (next_time calls.now.times.seconds calls.now.times.count time
+        (next_level calls.now.levels.tanks calls.now.levels.targets calls.now.levels.count t.now.at.nodes t.now.numbers t.now.overflows heads.now demands.now MAX)) }
 {
-    let mut smallest = from;
-    let mut i = 0;
-    while i < n {
-        let k = tanks[i] as usize;
-        let j = nodes[k] as usize;
-        let t = tank_at(numbers, overflows, k);
-        let head = heads[j];
-        let target = targets[i];
-        let demand = demands[j];
-        let level = Feet(head - t.elevation.0);
-        let candidate = t.time_to_reach_level(level, Feet(target), CubicFeetPerSecond(demand));
-        smallest = smaller_positive(candidate, smallest);
-        i += 1;
-    }
-    smallest
+    let by_level = next_level(&calls.levels, t, heads, demands, MAX);
+    next_clock(
+        &calls.clocks,
+        clock,
+        next_time(&calls.times, time, by_level),
+    )
 }

@@ -1,13 +1,13 @@
-// `update_tank_links` by the table of the tanks' links: tank k's are links[i] for i from begins[k] up to begins[k + 1], those into it before
-// middles[k]. Statuses and demands depend on heads and flows alone, so each has a pass of its own. Only tanks are visited, and of the links
-// only those at them.
-ghost use Rattle.std.specs.Prelude.{◌≡◌};
-ghost use Rattle.run_tables.specs.Held.{TanksInside};
-ghost use Rattle.run_closing.specs.Closing.{PartInside, GroupsInside, marked, part_closed, links_closed, added, taken, demands_summed};
+// `update_tank_links` by the table of the tanks' links. Statuses and demands depend on heads and flows alone, so each has a pass of its own. Only
+// tanks are visited, and of the links only those at them.
+ghost use Rattle.std.specs.Prelude.{ℕ, ◌≡◌, ◌<◌, length, get_or};
+ghost use Rattle.model.specs.Loops.{through};
+ghost use Rattle.run_closing.specs.Closing.{GroupsInside, marked, link_marked, links_closed, demands_summed};
 
 use model::TEMP_CLOSED;
-use run_tables::tank_at;
+use run_tables::{NodeList, TankTable};
 use state_link::{empty_closed, fill_closed};
+use tank_links::LinkGroups;
 
 // A link's status: closed where it flows forward and may not, or backward and may not.
 fn marked(forward: bool, backward: bool, flow: f64, status: u32) -> u32
@@ -19,126 +19,61 @@ fn marked(forward: bool, backward: bool, flow: f64, status: u32) -> u32
     status
 }
 
-// The statuses of n links of the table, from a place on.
-fn close_part<'a>(
-    links: &'a [u32; 768],
-    from: usize,
-    n: usize,
-    flows: &'a [f64; 384],
+// The statuses of some links.
+fn close_part(
+    links: &[u32],
+    flows: &[f64; 384],
     forward: bool,
     backward: bool,
     statuses: &mut [u32; 384],
 )
-    requires { PartInside links.now from n }
-    ensures { statuses.new ≡ part_closed links.now from n flows.now forward backward statuses.old }
+    requires { (i : ℕ) → i < length links.now → get_or links.now i 0 < 384 }
+    ensures { statuses.new ≡ through (length links.now) (λ i. link_marked flows.now forward backward (get_or links.now i 0)) statuses.old }
 {
-    let mut i = 0;
-    while i < n {
-        let at = from + i;
-        let l = links[at] as usize;
+    for link in links {
+        let l = *link as usize;
         statuses[l] = marked(forward, backward, flows[l], statuses[l]);
-        i += 1;
     }
-}
-
-// A sum with the flows of n links added.
-fn add_flows<'a>(
-    links: &'a [u32; 768],
-    from: usize,
-    n: usize,
-    flows: &'a [f64; 384],
-    sum: f64,
-) -> f64
-    requires { PartInside links.now from n }
-    ensures { result ≡ added links.now from n flows.now sum }
-{
-    let mut x = sum;
-    let mut i = 0;
-    while i < n {
-        let at = from + i;
-        let l = links[at] as usize;
-        x = x + flows[l];
-        i += 1;
-    }
-    x
-}
-
-// A sum with the flows of n links taken off.
-fn take_flows<'a>(
-    links: &'a [u32; 768],
-    from: usize,
-    n: usize,
-    flows: &'a [f64; 384],
-    sum: f64,
-) -> f64
-    requires { PartInside links.now from n }
-    ensures { result ≡ taken links.now from n flows.now sum }
-{
-    let mut x = sum;
-    let mut i = 0;
-    while i < n {
-        let at = from + i;
-        let l = links[at] as usize;
-        x = x - flows[l];
-        i += 1;
-    }
-    x
 }
 
 // Every tank's links.
-pub fn close_links<'a>(
-    nodes: &'a [u32; 256],
-    numbers: &'a [f64; 1280],
-    overflows: &'a [u32; 256],
-    begins: &'a [u32; 257],
-    middles: &'a [u32; 256],
-    links: &'a [u32; 768],
-    n: usize,
-    heads: &'a [f64; 256],
-    flows: &'a [f64; 384],
+pub fn close_links(
+    t: &TankTable,
+    g: &LinkGroups,
+    heads: &[f64; 256],
+    flows: &[f64; 384],
     statuses: &mut [u32; 384],
 )
-    requires tanks_inside { TanksInside nodes.now n }
-    requires groups_inside { GroupsInside begins.now middles.now links.now n }
-    ensures { statuses.new ≡ links_closed nodes.now numbers.now overflows.now begins.now middles.now links.now n heads.now flows.now statuses.old }
+    requires { GroupsInside g.now.begins g.now.middles g.now.links t.now.at.count }
+    ensures { statuses.new ≡ links_closed t.now.at.nodes t.now.numbers t.now.overflows g.now.begins g.now.middles g.now.links t.now.at.count heads.now flows.now statuses.old }
 {
-    let mut k = 0;
-    while k < n {
-        let j = nodes[k] as usize;
-        let t = tank_at(numbers, overflows, k);
-        let full = fill_closed(t, heads[j]);
-        let empty = empty_closed(t, heads[j]);
-        let from = begins[k] as usize;
-        let middle = middles[k] as usize;
-        let to = begins[k + 1] as usize;
-        close_part(links, from, middle - from, flows, full, empty, statuses);
-        close_part(links, middle, to - middle, flows, empty, full, statuses);
-        k += 1;
+    for k in 0..t.at.count {
+        let head = heads[t.at.nodes[k] as usize];
+        let tank = t.tank(k);
+        let full = fill_closed(tank, head);
+        let empty = empty_closed(tank, head);
+        let middle = g.middles[k] as usize;
+        let into = &g.links[g.begins[k] as usize..middle];
+        let out = &g.links[middle..g.begins[k + 1] as usize];
+        close_part(into, flows, full, empty, statuses);
+        close_part(out, flows, empty, full, statuses);
     }
 }
 
 // Every tank's demand: the flows into it first.
-pub fn sum_demands<'a>(
-    nodes: &'a [u32; 256],
-    begins: &'a [u32; 257],
-    middles: &'a [u32; 256],
-    links: &'a [u32; 768],
-    n: usize,
-    flows: &'a [f64; 384],
-    demands: &mut [f64; 256],
-)
-    requires tanks_inside { TanksInside nodes.now n }
-    requires groups_inside { GroupsInside begins.now middles.now links.now n }
-    ensures { demands.new ≡ demands_summed nodes.now begins.now middles.now links.now n flows.now demands.old }
+pub fn sum_demands(tanks: &NodeList, g: &LinkGroups, flows: &[f64; 384], demands: &mut [f64; 256])
+    requires { GroupsInside g.now.begins g.now.middles g.now.links tanks.now.count }
+    ensures { demands.new ≡ demands_summed tanks.now.nodes g.now.begins g.now.middles g.now.links tanks.now.count flows.now demands.old }
 {
-    let mut k = 0;
-    while k < n {
-        let j = nodes[k] as usize;
-        let from = begins[k] as usize;
-        let middle = middles[k] as usize;
-        let to = begins[k + 1] as usize;
-        let into = add_flows(links, from, middle - from, flows, 0.0);
-        demands[j] = take_flows(links, middle, to - middle, flows, into);
-        k += 1;
+    for k in 0..tanks.count {
+        let middle = g.middles[k] as usize;
+        let mut sum = 0.0;
+        for into in &g.links[g.begins[k] as usize..middle] {
+            sum += flows[*into as usize];
+        }
+        for out in &g.links[middle..g.begins[k + 1] as usize] {
+            sum -= flows[*out as usize];
+        }
+        demands[tanks.nodes[k] as usize] = sum;
     }
 }

@@ -7,7 +7,7 @@ use Rattle.number.specs.Constants.{l_tol}
 use Rattle.number.specs.Operators.{◌⊖◌}
 use Rattle.model.specs.Loops.{through}
 use Rattle.model.specs.declared.state.LinkState.{LinkState}
-use Rattle.run_state.specs.Lists.{Links}
+use Rattle.run_state.specs.declared.Links.{Links}
 use Rattle.run_rows.specs.Rows.{row_at}
 use Rattle.run_rows.specs.declared.rows.Row.{Row}
 

@@ -1,88 +1,71 @@
 // `apply_controls` over the rows of the controls.
 ghost use Rattle.std.specs.Prelude.{◌≡◌};
 ghost use Rattle.run_controls.specs.Apply.{is_due, acted, links_after};
-ghost use Rattle.run_rows.specs.Rows.{RowsInside};
 
 use model::LinkState;
 use number::constants::L_TOL;
-use run_rows::{Row, row_at};
+use run_rows::{ControlTable, Row};
+use run_state::Links;
 
 // Whether a control acts, from the head that it watches.
+#[tactic(auto, unfolding(crate::specs::Apply::due_by))]
 fn is_due(r: Row, head: f64, time: u32, clock: u64) -> bool
     ensures { result ≡ is_due r head time clock }
 {
-    let kind = r.kind;
-    let seconds = r.seconds;
     let above = head - r.elevation - r.target;
-    if kind == 1 {
-        return (time != 0) & (above >= -L_TOL);
+    match r.kind {
+        1 => time != 0 && above >= -L_TOL,
+        2 => time != 0 && above <= L_TOL,
+        3 => r.seconds == time,
+        4 => u64::from(r.seconds) == clock,
+        _ => false,
     }
-    if kind == 2 {
-        return (time != 0) & (above <= L_TOL);
-    }
-    if kind == 3 {
-        return seconds == time;
-    }
-    if kind == 4 {
-        return (seconds as u64) == clock;
-    }
-    false
 }
 
 // What a control makes of its link's state.
+#[tactic(auto, unfolding(crate::specs::Apply::acted))]
 fn acted(on: bool, r: Row, x: LinkState) -> LinkState
     ensures { result ≡ acted on r x }
 {
-    let action = r.action;
     if !on {
         return x;
     }
-    if action == 1 {
-        return LinkState {
+    match r.action {
+        1 => LinkState {
             flow: r.flow,
             status: r.status,
-            setting: x.setting,
-        };
-    }
-    if action == 2 {
-        return LinkState {
+            ..x
+        },
+        2 => LinkState {
             flow: r.flow,
-            status: x.status,
             setting: r.setting,
-        };
+            ..x
+        },
+        _ => x,
     }
-    x
 }
 
 // Every control in image order.
-pub fn apply_controls<'a>(
-    words: &'a [u32; 384],
-    numbers: &'a [f64; 256],
-    n: usize,
-    heads: &'a [f64; 256],
+pub fn apply_controls(
+    t: &ControlTable,
+    heads: &[f64; 256],
     time: u32,
     clock: u64,
-    flows: &mut [f64; 384],
-    statuses: &mut [u32; 384],
-    settings: &mut [f64; 384],
+    links: &mut Links,
 )
-    requires { RowsInside words.now n }
-    ensures { links_after words.now numbers.now n heads.now time clock (record { flows = flows.entry.now; statuses = statuses.old; settings = settings.old }) ≡ record { flows = flows.exit.now; statuses = statuses.new; settings = settings.new } }
+    ensures { links.new ≡ links_after t.now.words t.now.numbers t.now.count heads.now time clock links.old }
 {
-    let mut i = 0;
-    while i < n {
-        let r = row_at(words, numbers, i);
-        let w = r.node as usize;
+    for i in 0..t.count {
+        let r = t.row(i);
         let l = r.link as usize;
         let x = LinkState {
-            flow: flows[l],
-            status: statuses[l],
-            setting: settings[l],
+            flow: links.flows[l],
+            status: links.statuses[l],
+            setting: links.settings[l],
         };
-        let y = acted(is_due(r, heads[w], time, clock), r, x);
-        flows[l] = y.flow;
-        statuses[l] = y.status;
-        settings[l] = y.setting;
-        i += 1;
+        let y = acted(is_due(r, heads[r.node as usize], time, clock), r, x);
+        links.flows[l] = y.flow;
+        links.statuses[l] = y.status;
+        links.settings[l] = y.setting;
     }
 }

@@ -1,27 +1,20 @@
 -- Needs no belief: what the controls of each kind wait for, and what the arrays hold of it.
-use Rattle.std.specs.Prelude.{ℕ, ◌<◌, ◌≡◌, Bool, cond, List, [], ◌∷◌, get_or, length}
+use Rattle.std.specs.Prelude.{ℕ, ◌<◌, ◌≡◌, Bool, cond, List, [], ◌∷◌, Option, Some, None, get_or, length}
 use Rattle.clock.specs.Triggers.{Trigger, at_time, at_clock, at_level, untimed}
-use Rattle.model.specs.declared.control.ControlCondition.{ControlCondition}
-use Rattle.model.specs.declared.control.ControlCondition.TheVariants.{HighPressure, LowPressure, HighLevel, LowLevel, Time, ClockTime}
 
--- ---- one control
--- what it adds to the times
-abbrev pub times_at : ControlCondition → List ℕ
-times_at (HighPressure n x) = []
-times_at (LowPressure n x) = []
-times_at (HighLevel n x) = []
-times_at (LowLevel n x) = []
-times_at (Time s) = s ∷ []
-times_at (ClockTime s) = []
+-- ---- one control: the instant that it waits for, and the clock time
+module _ {L : Type 0} where
+  abbrev pub time_of : Trigger L → Option ℕ
+  time_of (at_time s) = Some s
+  time_of (at_clock s) = None
+  time_of (at_level l) = None
+  time_of untimed = None
 
--- to the clock times
-abbrev pub clocks_at : ControlCondition → List ℕ
-clocks_at (HighPressure n x) = []
-clocks_at (LowPressure n x) = []
-clocks_at (HighLevel n x) = []
-clocks_at (LowLevel n x) = []
-clocks_at (Time s) = []
-clocks_at (ClockTime s) = s ∷ []
+  abbrev pub clock_of : Trigger L → Option ℕ
+  clock_of (at_time s) = None
+  clock_of (at_clock s) = Some s
+  clock_of (at_level l) = None
+  clock_of untimed = None
 
 -- ---- a list of controls, in its order
 module _ {L : Type 0} where

@@ -1,5 +1,5 @@
 -- Needs no belief: the level controls of tanks, and what the arrays hold of them.
-use Rattle.std.specs.Prelude.{ℕ, ◌≤◌, ◌<◌, ◌≡◌, Bool, cond, not, List, [], ◌∷◌, eqb, ltb, Float, get_or, length}
+use Rattle.std.specs.Prelude.{ℕ, ◌<◌, ◌≡◌, Bool, cond, not, List, [], ◌∷◌, Option, Some, None, is_some, eqb, Float, get_or, length}
 use Rattle.std.specs.Float.{nan}
 use Rattle.control.specs.Controls.{Level}
 use Rattle.model.specs.Loops.{all_below}
@@ -19,16 +19,24 @@ levels_at tank (LowLevel n x) = cond tank (record { tank = n; target = x } ∷ [
 levels_at tank (Time s) = []
 levels_at tank (ClockTime s) = []
 
+-- its node and its target
+abbrev pub level_of : ControlCondition → Option (ℕ × Float)
+level_of (HighPressure n x) = None
+level_of (LowPressure n x) = None
+level_of (HighLevel n x) = Some (n, x)
+level_of (LowLevel n x) = Some (n, x)
+level_of (Time s) = None
+level_of (ClockTime s) = None
+
 -- ---- the nodes of the tanks
 -- whether one of the first n is a node
 unfoldable pub stands_at : List ℕ → ℕ → ℕ → Bool
 stands_at nodes n node = not (all_below n (λ k. not (eqb (get_or nodes k 0) node)))
 
--- k is the number of such a one, n where there is none
-pub record Numbered (nodes : List ℕ) (n node k : ℕ) : Type 0 where
-  pub most : k ≤ n
-  pub stands : stands_at nodes n node ≡ ltb k n
-  pub found : k < n → get_or nodes k 0 ≡ node
+-- k is the number of such a one, if there is one
+pub record Numbered (nodes : List ℕ) (n node : ℕ) (k : Option ℕ) : Type 0 where
+  pub stands : stands_at nodes n node ≡ is_some k
+  pub found : (i : ℕ) → k ≡ Some i → (i < n) × (get_or nodes i 0 ≡ node)
 
 -- ---- the arrays
 -- the levels of the first n controls whose node is that of a tank

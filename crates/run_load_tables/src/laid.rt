@@ -1,109 +1,59 @@
 // What a load needs of the tables: the junctions, the ends of the links, and which nodes are tanks.
-ghost use Rattle.std.specs.Prelude.{◌≡◌, cond, ◌+◌, ◌≤◌, ◌<◌, length};
-ghost use Rattle.model.specs.Nodes.{is_tank, is_junction};
+ghost use Rattle.std.specs.Prelude.{◌≡◌, ◌≤◌};
 ghost use Rattle.run_tables.specs.Held.{Pushed};
 ghost use Rattle.tank_links.specs.Laid.{EndsInside};
-ghost use Rattle.run_load_tables.specs.Laid.{junction_in, EndsLaid, MarksLaid};
+ghost use Rattle.run_load_tables.specs.Laid.{junction_in, EndsLaid, LoadLaid, MarksLaid};
 
 use model::*;
+use run_loads::LoadTable;
+use run_tables::{NodeList, nodes_where};
 
-// The nodes that are junctions, in order; what stands past the count is free.
-#[derive(Clone, Copy)]
-pub struct JunctionNodes {
-    pub count: usize,
-    pub nodes: [u32; 256],
-}
-
-// The nodes at which each link begins and ends.
-#[derive(Clone, Copy)]
-pub struct LinkEnds {
-    pub starts: [u32; 384],
-    pub ends: [u32; 384],
-}
-
-fn no_nodes() -> [u32; 256]
-    ensures { 256 ≡ length result }
-{
-    [0; 256]
-}
-
-fn no_ends() -> [u32; 384]
-    ensures { 384 ≡ length result }
-{
-    [0; 384]
-}
-
-// A count with one more for a junction.
-fn with_junction(count: usize, n: Node) -> usize
-    requires { count < 256 }
-    ensures { result ≡ count + cond (is_junction n) 1 0 }
-{
-    if n.is_junction() {
-        return count + 1;
-    }
-    count
-}
-
-// The junctions among the first n nodes. An index is pushed without a branch: it is written at the count, which moves on where it is a
-// junction's.
-pub fn junction_nodes(table: [Node; 256], n: usize) -> JunctionNodes
+// The junctions among the first n nodes.
+fn junction_nodes(table: &[Node; 256], n: usize) -> NodeList
     requires { n ≤ 256 }
-    ensures { Pushed (junction_in table) n result.nodes result.count }
+    ensures { Pushed (junction_in table.now) n result.nodes result.count }
 {
-    let mut nodes = no_nodes();
-    let mut count = 0;
-    let mut i = 0;
-    while i < n {
-        nodes[count] = i as u32;
-        count = with_junction(count, table[i]);
-        i += 1;
-    }
-    JunctionNodes {
-        count: count,
-        nodes: nodes,
-    }
+    nodes_where(table, n, |x| x.is_junction())
 }
 
-// The ends of the first n links.
-pub fn link_ends(table: [Link; 384], n: usize) -> LinkEnds
-    requires { EndsInside table n }
-    ensures { EndsLaid table n result.starts result.ends }
+// The nodes at which each of the first n links starts and ends.
+fn link_ends(table: &[Link; 384], n: usize) -> ([u32; 384], [u32; 384])
+    requires { EndsInside table.now n }
+    ensures { EndsLaid table.now n result.0 result.1 }
 {
-    let mut starts = no_ends();
-    let mut ends = no_ends();
-    let mut i = 0;
-    while i < n {
-        let l = table[i];
-        starts[i] = l.start as u32;
-        ends[i] = l.end as u32;
-        i += 1;
+    let mut starts = [0; 384];
+    let mut ends = [0; 384];
+    for i in 0..n {
+        starts[i] = table[i].start as u32;
+        ends[i] = table[i].end as u32;
     }
-    LinkEnds {
-        starts: starts,
-        ends: ends,
-    }
-}
-
-// 1 for a tank.
-fn mark(n: Node) -> u32
-    ensures { result ≡ cond (is_tank n) 1 0 }
-{
-    if n.is_tank() {
-        return 1;
-    }
-    0
+    (starts, ends)
 }
 
 // Which of the first n nodes are tanks.
-pub fn tank_marks(table: [Node; 256], n: usize) -> [u32; 256]
+fn tank_marks(table: &[Node; 256], n: usize) -> [u32; 256]
     requires { n ≤ 256 }
-    ensures { MarksLaid table n result }
+    ensures { MarksLaid table.now n result }
 {
-    let mut tanks = no_nodes();
-    let mut i = 0;
-    while i < n {
-        tanks[i] = mark(table[i]);
-        i += 1;
+    let mut tanks = [0; 256];
+    for i in 0..n {
+        tanks[i] = u32::from(table[i].is_tank());
     }
     tanks
+}
+
+// Of the first n nodes and the first m links.
+pub fn load_table(nodes: &[Node; 256], n: usize, links: &[Link; 384], m: usize) -> LoadTable
+    requires few { n ≤ 256 }
+    requires inside { EndsInside links.now m }
+    ensures { LoadLaid nodes.now n links.now m result }
+{
+    let (starts, ends) = link_ends(links, m);
+    LoadTable {
+        links: m,
+        junctions: junction_nodes(nodes, n),
+        starts,
+        ends,
+        tanks: tank_marks(nodes, n),
+    }
 }

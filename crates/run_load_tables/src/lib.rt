@@ -2,4 +2,4 @@
 // What a load goes by, laid out once: where the junctions stand, the ends of the links, and which nodes are tanks.
 mod laid;
 
-pub use laid::{JunctionNodes, LinkEnds, junction_nodes, link_ends, tank_marks};
+pub use laid::load_table;

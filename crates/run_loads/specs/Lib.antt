@@ -1,2 +1,4 @@
+pub mod Faults
 pub mod Values
 pub mod Taking
+pub mod Loaded

@@ -1,5 +1,8 @@
 #![tactic(auto)]
-// A load into a run's arrays: the passes that judge and take it.
+// A load judged by what it goes by, and taken into a state's lists.
+mod fault;
+mod table;
 mod taking;
 
-pub use taking::{load_fault, sum_inflows, take_flows, take_heads};
+pub use fault::LoadFault;
+pub use table::LoadTable;

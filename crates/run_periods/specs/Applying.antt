@@ -1,7 +1,9 @@
 -- Needs no belief: all that the patterns write, over lists of numbers, at every instant or once a period.
 use Rattle.std.specs.Prelude.{ℕ, Bool, cond, List, eqb, Float}
 use Rattle.model.specs.Patterns.{period}
+use Rattle.run_state.specs.declared.Lists.{Lists}
 use Rattle.run_tanks.specs.Emptying.{tanks_emptied}
+use Rattle.run_sources.specs.declared.PatternTables.{PatternTables}
 use Rattle.run_patterns.specs.Filling.{multipliers_filled, demands_filled, heads_filled, demands_copied}
 
 -- what the patterns write
@@ -27,6 +29,28 @@ pub record Inputs : Type 0 where
   pub elevations : List Float
   pub patterns : List ℕ
   pub patterned : ℕ
+
+-- as the tables hold them, and the lists
+abbrev pub inputs_of : PatternTables → List Float → Inputs
+inputs_of t multipliers = record {
+  lengths = t.lengths;
+  multipliers = multipliers;
+  start = t.start;
+  timestep = t.timestep;
+  counts = t.demands.counts;
+  bases = t.demands.bases;
+  places = t.demands.patterns;
+  scale = t.scale;
+  pda = t.pda;
+  n = t.demands.count;
+  reservoirs = t.heads.at.nodes;
+  elevations = t.heads.elevations;
+  patterns = t.heads.patterns;
+  patterned = t.heads.at.count;
+}
+
+abbrev pub written_in : List Float → Lists → Written
+written_in table lists = record { table = table; heads = lists.heads; demands = lists.demands; flows = lists.demand_flows }
 
 -- at an instant
 unfoldable pub filled : Inputs → ℕ → Written → Written

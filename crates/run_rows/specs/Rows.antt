@@ -1,4 +1,5 @@
 -- Needs no belief: a control as a row of numbers, and what the arrays of the rows hold.
+use Rattle.std.specs.Prelude.{None, Option, Some}
 use Rattle.std.specs.Prelude.{ℕ, ◌+◌, ◌*◌, ◌≤◌, ◌<◌, ◌≡◌, Bool, cond, List, Float, get_or}
 use Rattle.std.specs.Float.{nan}
 use Rattle.number.specs.Constants.{decimal}
@@ -10,10 +11,6 @@ use Rattle.model.specs.Nodes.{elevation, is_tank}
 use Rattle.model.specs.declared.control.Control.{Control}
 use Rattle.model.specs.declared.control.ControlCondition.{ControlCondition}
 use Rattle.model.specs.declared.control.ControlCondition.TheVariants.{HighPressure, LowPressure, HighLevel, LowLevel, Time, ClockTime}
-use Rattle.model.specs.declared.control.SettingAction.{SettingAction}
-use Rattle.model.specs.declared.control.SettingAction.TheVariants.{KeepSetting, SetSetting}
-use Rattle.model.specs.declared.control.StatusAction.{StatusAction}
-use Rattle.model.specs.declared.control.StatusAction.TheVariants.{KeepStatus, SetStatus}
 use Rattle.model.specs.declared.link.Link.{Link}
 use Rattle.model.specs.declared.node.Node.{Node}
 use Rattle.run_rows.specs.declared.rows.Row.{Row}
@@ -44,20 +41,20 @@ kind_of tank (Time s) = 3
 kind_of tank (ClockTime s) = 4
 
 -- 1 a status, 2 a setting, 0 neither: a status wins
-abbrev pub action_of : StatusAction → SettingAction → ℕ
-action_of (SetStatus x) setting = 1
-action_of KeepStatus (SetSetting x) = 2
-action_of KeepStatus KeepSetting = 0
+abbrev pub action_of : Option ℕ → Option Float → ℕ
+action_of (Some x) setting = 1
+action_of None (Some x) = 2
+action_of None None = 0
 
 -- the status that an action sets; 0 where it sets none
-abbrev pub new_status : StatusAction → ℕ
-new_status (SetStatus x) = x
-new_status KeepStatus = 0
+abbrev pub new_status : Option ℕ → ℕ
+new_status (Some x) = x
+new_status None = 0
 
 -- the setting; 0 where it sets none
-abbrev pub new_setting : SettingAction → Float
-new_setting (SetSetting x) = x
-new_setting KeepSetting = decimal 0 0
+abbrev pub new_setting : Option Float → Float
+new_setting (Some x) = x
+new_setting None = decimal 0 0
 
 -- with the node that it watches and the link that it sets
 abbrev pub row_from : Control → Node → Link → Row

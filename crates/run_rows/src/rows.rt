@@ -1,15 +1,15 @@
 // The rows of a table of controls, in image order.
-ghost use Rattle.std.specs.Prelude.{◌≡◌, [], ◌∷◌, ◌*◌, ◌<◌, length};
+ghost use Rattle.std.specs.Prelude.{◌≡◌, [], ◌∷◌, ◌*◌, ◌<◌};
 ghost use Rattle.control.specs.Controls.{watched};
-ghost use Rattle.model.specs.declared.control.StatusAction.TheVariants.{KeepStatus};
 ghost use Rattle.run_tables.specs.Blocks.{block};
-ghost use Rattle.run_rows.specs.Rows.{kind_of, action_of, new_status, new_setting, row_at, row_from, ControlsInside, RowsLaid};
+ghost use Rattle.run_rows.specs.Rows.{kind_of, action_of, row_at, row_from, ControlsInside, RowsInside, RowsLaid};
 
 use control::{condition_seconds, condition_target, watched};
 use model::*;
 
 // A control in the form in which it is applied. Kinds: 0 acts never, 1 high level, 2 low level, 3 time, 4 clock. Actions: 0 none, 1 a
 // status, 2 a setting. `elevation` is that of the watched tank, `flow` the initial flow of the link.
+// kept: kinds and actions are numbers, as the table's words hold them and `row_at` reads them (edit `row_of_six`); an enum has to be made of each word.
 #[derive(Clone, Copy)]
 pub struct Row {
     pub kind: u32,
@@ -24,43 +24,35 @@ pub struct Row {
     pub flow: f64,
 }
 
-// Control i: six words from 6 * i on, four numbers from 4 * i on.
-pub fn row_at<'a>(words: &'a [u32; 384], numbers: &'a [f64; 256], i: usize) -> Row
-    requires { i < 64 }
-    ensures { result ≡ row_at words.now numbers.now i }
-{
-    Row {
-        kind: words[6 * i],
-        node: words[6 * i + 1],
-        link: words[6 * i + 2],
-        seconds: words[6 * i + 3],
-        action: words[6 * i + 4],
-        status: words[6 * i + 5],
-        elevation: numbers[4 * i],
-        target: numbers[4 * i + 1],
-        setting: numbers[4 * i + 2],
-        flow: numbers[4 * i + 3],
-    }
-}
-
 // Six words and four numbers each.
+// kept: rows in two arrays, as `row_at` (edit `row_of_six`) and the theorem `apply_controls_is` have them.
 #[derive(Clone, Copy)]
 pub struct ControlTable {
     pub count: usize,
     pub words: [u32; 384],
     pub numbers: [f64; 256],
+    pub ghost inside: { RowsInside words count },
 }
 
-fn no_words() -> [u32; 384]
-    ensures { 384 ≡ length result }
-{
-    [0; 384]
-}
-
-fn no_numbers() -> [f64; 256]
-    ensures { 256 ≡ length result }
-{
-    [0.0; 256]
+impl ControlTable {
+    // Control i: six words from 6 * i on, four numbers from 4 * i on.
+    pub fn row(&self, i: usize) -> Row
+        requires { i < 64 }
+        ensures { result ≡ row_at self.now.words self.now.numbers i }
+    {
+        Row {
+            kind: self.words[6 * i],
+            node: self.words[6 * i + 1],
+            link: self.words[6 * i + 2],
+            seconds: self.words[6 * i + 3],
+            action: self.words[6 * i + 4],
+            status: self.words[6 * i + 5],
+            elevation: self.numbers[4 * i],
+            target: self.numbers[4 * i + 1],
+            setting: self.numbers[4 * i + 2],
+            flow: self.numbers[4 * i + 3],
+        }
+    }
 }
 
 // Which kind of condition it is: 0 where it never acts here, a pressure or a level of no tank.
@@ -68,95 +60,42 @@ fn kind_of(is_tank: bool, condition: ControlCondition) -> u32
     ensures { result ≡ kind_of is_tank condition }
 {
     match condition {
-        ControlCondition::HighPressure { node: _, target: _ } => 0,
-        ControlCondition::LowPressure { node: _, target: _ } => 0,
-        ControlCondition::HighLevel { tank: _, target: _ } => {
-            if is_tank {
-                return 1;
-            }
-            0
-        }
-        ControlCondition::LowLevel { tank: _, target: _ } => {
-            if is_tank {
-                return 2;
-            }
-            0
-        }
-        ControlCondition::Time { seconds: _ } => 3,
-        ControlCondition::ClockTime { seconds: _ } => 4,
-    }
-}
-
-// The action of a control that keeps the status.
-fn setting_action(setting: SettingAction) -> u32
-    ensures { result ≡ action_of KeepStatus setting }
-{
-    match setting {
-        SettingAction::SetSetting(_) => 2,
-        SettingAction::KeepSetting => 0,
+        ControlCondition::HighLevel { .. } if is_tank => 1,
+        ControlCondition::LowLevel { .. } if is_tank => 2,
+        ControlCondition::Time { .. } => 3,
+        ControlCondition::ClockTime { .. } => 4,
+        _ => 0,
     }
 }
 
 // Which action it is: a status wins over a setting.
-fn action_of(status: StatusAction, setting: SettingAction) -> u32
+fn action_of(status: Option<u32>, setting: Option<f64>) -> u32
     ensures { result ≡ action_of status setting }
 {
-    match status {
-        StatusAction::SetStatus(_) => 1,
-        StatusAction::KeepStatus => setting_action(setting),
+    match (status, setting) {
+        (Some(_), _) => 1,
+        (None, Some(_)) => 2,
+        (None, None) => 0,
     }
 }
 
-// The status that an action sets; 0 where it sets none.
-fn new_status(status: StatusAction) -> u32
-    ensures { result ≡ new_status status }
-{
-    match status {
-        StatusAction::SetStatus(x) => x,
-        StatusAction::KeepStatus => 0,
-    }
-}
-
-// The setting; 0 where it sets none.
-fn new_setting(setting: SettingAction) -> f64
-    ensures { result ≡ new_setting setting }
-{
-    match setting {
-        SettingAction::SetSetting(x) => x,
-        SettingAction::KeepSetting => 0.0,
-    }
-}
-
-// A control's row, with the node that it watches and the link that it sets.
+// A control's row, with the node that it watches and the link that it sets. Where it sets no status, or no setting, that is 0.
 fn row_of(c: Control, node: Node, link: Link) -> Row
     requires condition_bound { watched c.condition < 256 }
     requires link_bound { c.link < 384 }
     ensures { result ≡ row_from c node link }
 {
-    let condition = c.condition;
-    let status = c.status;
-    let setting = c.setting;
-    let w = watched(condition);
-    let l = c.link;
-    let kind = kind_of(node.is_tank(), condition);
-    let seconds = condition_seconds(condition);
-    let action = action_of(status, setting);
-    let value = new_status(status);
-    let elevation = node.elevation();
-    let target = condition_target(condition);
-    let number = new_setting(setting);
-    let flow = link.initial_flow();
     Row {
-        kind: kind,
-        node: w as u32,
-        link: l as u32,
-        seconds: seconds,
-        action: action,
-        status: value,
-        elevation: elevation,
-        target: target,
-        setting: number,
-        flow: flow,
+        kind: kind_of(node.is_tank(), c.condition),
+        node: watched(c.condition) as u32,
+        link: c.link as u32,
+        seconds: condition_seconds(c.condition),
+        action: action_of(c.status, c.setting),
+        status: c.status.unwrap_or(0),
+        elevation: node.elevation(),
+        target: condition_target(c.condition),
+        setting: c.setting.unwrap_or(0.0),
+        flow: link.initial_flow(),
     }
 }
 
@@ -186,30 +125,25 @@ fn put_numbers(numbers: &mut [f64; 256], i: usize, r: Row)
 
 // The first n controls of a table, each with what it reads of the tables of nodes and of links.
 pub fn control_table(
-    controls: [Control; 64],
+    controls: &[Control; 64],
     n: usize,
-    nodes: [Node; 256],
-    links: [Link; 384],
+    nodes: &[Node; 256],
+    links: &[Link; 384],
 ) -> ControlTable
-    requires { ControlsInside controls n }
-    ensures { RowsLaid controls n nodes links result.words result.numbers result.count }
+    requires { ControlsInside controls.now n }
+    ensures { RowsLaid controls.now n nodes.now links.now result.words result.numbers result.count }
 {
-    let mut words = no_words();
-    let mut numbers = no_numbers();
-    let mut i = 0;
-    while i < n {
+    let mut words = [0; 384];
+    let mut numbers = [0.0; 256];
+    for i in 0..n {
         let c = controls[i];
-        let condition = c.condition;
-        let w = watched(condition);
-        let l = c.link;
-        let r = row_of(c, nodes[w], links[l]);
+        let r = row_of(c, nodes[watched(c.condition)], links[c.link]);
         put_words(&mut words, i, r);
         put_numbers(&mut numbers, i, r);
-        i += 1;
     }
     ControlTable {
         count: n,
-        words: words,
-        numbers: numbers,
+        words,
+        numbers,
     }
 }

@@ -1,4 +1,2 @@
 -- Laws that belong to no one function.
-pub mod Listing
 pub mod Laying
-pub mod Inside

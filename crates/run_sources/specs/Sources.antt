@@ -1,4 +1,5 @@
 -- Needs no belief: what the tables of the demands and of the reservoirs with a pattern hold: what a reading of them gives.
+use Rattle.std.specs.Prelude.{None, Option, Some}
 use Rattle.std.specs.Prelude.{ℕ, ◌+◌, ◌*◌, ◌≤◌, ◌<◌, ◌≡◌, Bool, true, false, cond, List, [], ◌∷◌, ltb, Float, get_or, length}
 use Rattle.std.specs.Float.{nan}
 use Rattle.model.specs.Blank.{blank_node}
@@ -9,15 +10,13 @@ use Rattle.model.specs.declared.node.Demands.TheVariants.{NoDemand, One, Two, Th
 use Rattle.model.specs.declared.node.Node.{Node}
 use Rattle.model.specs.declared.node.NodeType.{NodeType}
 use Rattle.model.specs.declared.node.NodeType.TheVariants.{Reservoir, Tank, Junction}
-use Rattle.model.specs.declared.pattern.PatternIndex.{PatternIndex}
-use Rattle.model.specs.declared.pattern.PatternIndex.TheVariants.{NoPattern, PatternAt}
 use Rattle.state_patterns.specs.Patterns.{or_default}
 use Rattle.run_tables.specs.Chosen.{chosen}
 
 -- where a pattern's multiplier stands in the table of an instant's: 32 for none, and for one past the table, which no accepted project names
-abbrev pub place_of : PatternIndex → ℕ
-place_of NoPattern = 32
-place_of (PatternAt k) = cond (ltb k 32) k 32
+abbrev pub place_of : Option ℕ → ℕ
+place_of None = 32
+place_of (Some k) = cond (ltb k 32) k 32
 
 -- ---- demands
 abbrev pub listed : Demands → List Demand
@@ -34,7 +33,7 @@ demands_in (Tank t) = []
 demands_in (Junction j) = cond j.disabled [] (listed j.demands)
 
 abbrev pub no_demand : Demand
-no_demand = record { base = nan; pattern = NoPattern }
+no_demand = record { base = nan; pattern = None }
 
 -- the four entries of a node with these demands
 abbrev pub four : {A : Type 0} → (Demand → A) → List Demand → List A
@@ -56,7 +55,7 @@ pub record CountsLaid (table : List Node) (n : ℕ) (counts : List ℕ) : Type 0
   pub each : (i : ℕ) → i < n → get_or counts i 0 ≡ length (demands_in (get_or table i blank_node).kind)
 
 -- the table has the demands in use of the first n nodes, the default pattern put in where they name none
-pub record DemandsLaid (table : List Node) (n : ℕ) (default : PatternIndex) (counts : List ℕ) (bases : List Float) (patterns : List ℕ) : Type 0 where
+pub record DemandsLaid (table : List Node) (n : ℕ) (default : Option ℕ) (counts : List ℕ) (bases : List Float) (patterns : List ℕ) : Type 0 where
   pub count : CountsLaid table n counts
   pub base : (i j : ℕ) → i < n → j < get_or counts i 0 → base_at bases i j ≡ (demand_in table i j).base
   pub place : (i j : ℕ) → i < n → j < get_or counts i 0 → place_at patterns i j ≡ place_of (or_default default (demand_in table i j).pattern)
@@ -72,14 +71,14 @@ pub record DemandsInside (counts patterns : List ℕ) (n : ℕ) : Type 0 where
   pub node : (i : ℕ) → i < n → NodeInside patterns i (get_or counts i 0)
 
 -- ---- heads
-abbrev pub head_pattern_of : NodeType → PatternIndex
+abbrev pub head_pattern_of : NodeType → Option ℕ
 head_pattern_of (Reservoir r) = r.head_pattern
-head_pattern_of (Tank t) = NoPattern
-head_pattern_of (Junction j) = NoPattern
+head_pattern_of (Tank t) = None
+head_pattern_of (Junction j) = None
 
-abbrev pub is_pattern : PatternIndex → Bool
-is_pattern NoPattern = false
-is_pattern (PatternAt k) = true
+abbrev pub is_pattern : Option ℕ → Bool
+is_pattern None = false
+is_pattern (Some k) = true
 
 -- whether node i of a table is a reservoir with a pattern
 abbrev pub patterned_in : List Node → ℕ → Bool

@@ -10,7 +10,9 @@ use Rattle.model.specs.Blank.{blank_node_state, blank_link_state}
 use Rattle.model.specs.declared.state.LinkState.{LinkState}
 use Rattle.model.specs.declared.state.NodeState.{NodeState}
 use Rattle.model.specs.declared.state.State.{State}
-use Rattle.run_state.specs.Lists.{Lists, Links, NodesHold, LinksHold, demand_flow_of, demand_flows_of, demand_of, demands_of, flow_of, head_of, heads_of, links_of, lists_of, setting_of, status_of}
+use Rattle.run_state.specs.declared.Links.{Links}
+use Rattle.run_state.specs.declared.Lists.{Lists}
+use Rattle.run_state.specs.Lists.{NodesHold, LinksHold, demand_flow_of, demand_flows_of, demand_of, demands_of, flow_of, head_of, heads_of, links_of, lists_of, setting_of, status_of}
 
 -- one entry of what two lists are made into
 entry : {A B : Type 0} (h : A → B) (d : A) (xs ys : List A) → map h xs ≡ map h ys → (k : ℕ) → h (get_or xs k d) ≡ h (get_or ys k d)

@@ -4,6 +4,8 @@ use Rattle.clock.specs.declared.hand.Clock.{Clock}
 use Rattle.model.specs.declared.state.LinkState.{LinkState}
 use Rattle.model.specs.declared.state.NodeState.{NodeState}
 use Rattle.model.specs.declared.state.State.{State}
+use Rattle.run_state.specs.declared.Links.{Links}
+use Rattle.run_state.specs.declared.Lists.{Lists}
 
 -- ---- of the nodes
 abbrev pub head_of : NodeState → Float
@@ -44,24 +46,18 @@ abbrev pub settings_of : State → List Float
 settings_of s = map setting_of s.links
 
 -- the three arrays of the links
-pub record Links : Type 0 where
-  pub flows : List Float
-  pub statuses : List ℕ
-  pub settings : List Float
+abbrev pub links_listed : List LinkState → Links
+links_listed links = record { flows = map flow_of links; statuses = map status_of links; settings = map setting_of links }
 
 abbrev pub links_of : State → Links
-links_of s = record { flows = flows_of s; statuses = statuses_of s; settings = settings_of s }
+links_of s = links_listed s.links
 
 -- ---- all of it
-pub record Lists : Type 0 where
-  pub heads : List Float
-  pub demands : List Float
-  pub demand_flows : List Float
-  pub links : Links
-  pub clock : Clock
+abbrev pub nodes_listed : List NodeState → Links → Clock → Lists
+nodes_listed nodes links clock = record { heads = map head_of nodes; demands = map demand_of nodes; demand_flows = map demand_flow_of nodes; links = links; clock = clock }
 
 abbrev pub lists_of : State → Lists
-lists_of s = record { heads = heads_of s; demands = demands_of s; demand_flows = demand_flows_of s; links = links_of s; clock = s.clock }
+lists_of s = nodes_listed s.nodes (links_of s) s.clock
 
 -- what the arrays of the nodes, and of the links, hold
 pub record NodesHold (nodes : List NodeState) (heads demands flows : List Float) : Type 0 where

@@ -1,141 +1,108 @@
 #![tactic(auto)]
-// The parts of a state as arrays of numbers, and back.
-ghost use Rattle.std.specs.Prelude.{◌≡◌, length, map};
-ghost use Rattle.run_state.specs.Lists.{head_of, demand_of, demand_flow_of, flow_of, status_of, setting_of, NodesHold, LinksHold};
+// A state as arrays of numbers, which the passes of a run read and write in place, and back.
+ghost use Rattle.std.specs.Prelude.{◌≡◌};
+ghost use Rattle.run_state.specs.Lists.{lists_of, links_listed, nodes_listed, NodesHold, LinksHold};
 
+use clock::Clock;
 use model::*;
 
-fn numbers() -> [f64; 256]
-    ensures { 256 ≡ length result }
-{
-    [0.0; 256]
-}
-
-fn link_numbers() -> [f64; 384]
-    ensures { 384 ≡ length result }
-{
-    [0.0; 384]
-}
-
-fn link_words() -> [u32; 384]
-    ensures { 384 ≡ length result }
-{
-    [0; 384]
-}
-
-// Of the nodes.
-pub fn heads_of(nodes: [NodeState; 256]) -> [f64; 256]
-    ensures { result ≡ map head_of nodes }
-{
-    let mut out = numbers();
-    let mut i = 0;
-    while i < 256 {
-        let x = nodes[i];
-        out[i] = x.head;
-        i += 1;
-    }
-    out
-}
-
-pub fn demands_of(nodes: [NodeState; 256]) -> [f64; 256]
-    ensures { result ≡ map demand_of nodes }
-{
-    let mut out = numbers();
-    let mut i = 0;
-    while i < 256 {
-        let x = nodes[i];
-        out[i] = x.demand;
-        i += 1;
-    }
-    out
-}
-
-pub fn demand_flows_of(nodes: [NodeState; 256]) -> [f64; 256]
-    ensures { result ≡ map demand_flow_of nodes }
-{
-    let mut out = numbers();
-    let mut i = 0;
-    while i < 256 {
-        let x = nodes[i];
-        out[i] = x.demand_flow;
-        i += 1;
-    }
-    out
-}
-
 // Of the links.
-pub fn flows_of(links: [LinkState; 384]) -> [f64; 384]
-    ensures { result ≡ map flow_of links }
-{
-    let mut out = link_numbers();
-    let mut i = 0;
-    while i < 384 {
-        let x = links[i];
-        out[i] = x.flow;
-        i += 1;
-    }
-    out
+#[derive(Clone, Copy)]
+pub struct Links {
+    pub flows: [f64; 384],
+    pub statuses: [u32; 384],
+    pub settings: [f64; 384],
 }
 
-pub fn statuses_of(links: [LinkState; 384]) -> [u32; 384]
-    ensures { result ≡ map status_of links }
-{
-    let mut out = link_words();
-    let mut i = 0;
-    while i < 384 {
-        let x = links[i];
-        out[i] = x.status;
-        i += 1;
-    }
-    out
+// Of a state: what its nodes and its links hold, and its clock.
+#[derive(Clone, Copy)]
+pub struct Lists {
+    pub heads: [f64; 256],
+    pub demands: [f64; 256],
+    pub demand_flows: [f64; 256],
+    pub links: Links,
+    pub clock: Clock,
 }
 
-pub fn settings_of(links: [LinkState; 384]) -> [f64; 384]
-    ensures { result ≡ map setting_of links }
+// The lists of a table of links.
+fn links_of(table: &[LinkState; 384]) -> Links
+    ensures { result ≡ links_listed table.now }
 {
-    let mut out = link_numbers();
-    let mut i = 0;
-    while i < 384 {
-        let x = links[i];
-        out[i] = x.setting;
-        i += 1;
+    let mut links = Links {
+        flows: [0.0; 384],
+        statuses: [0; 384],
+        settings: [0.0; 384],
+    };
+    for (i, x) in table.iter().enumerate() {
+        links.flows[i] = x.flow;
+        links.statuses[i] = x.status;
+        links.settings[i] = x.setting;
     }
-    out
+    links
 }
 
-// Back. The arrays are taken by value, which tells how long they are: nothing is asked of a caller.
-pub fn nodes_from(
-    heads: [f64; 256],
-    demands: [f64; 256],
-    demand_flows: [f64; 256],
-) -> [NodeState; 256]
-    ensures { NodesHold result heads demands demand_flows }
+// The lists of a table of nodes, with those of the links.
+fn nodes_listed(table: &[NodeState; 256], links: Links, clock: Clock) -> Lists
+    ensures { result ≡ nodes_listed table.now links clock }
 {
-    let mut out = State::blank().nodes;
-    let mut i = 0;
-    while i < 256 {
-        out[i] = NodeState {
-            head: heads[i],
-            demand: demands[i],
-            demand_flow: demand_flows[i],
-        };
-        i += 1;
+    let mut lists = Lists {
+        heads: [0.0; 256],
+        demands: [0.0; 256],
+        demand_flows: [0.0; 256],
+        links,
+        clock,
+    };
+    for (i, x) in table.iter().enumerate() {
+        lists.heads[i] = x.head;
+        lists.demands[i] = x.demand;
+        lists.demand_flows[i] = x.demand_flow;
     }
-    out
+    lists
 }
 
-pub fn links_from(flows: [f64; 384], statuses: [u32; 384], settings: [f64; 384]) -> [LinkState; 384]
-    ensures { LinksHold result flows statuses settings }
-{
-    let mut out = State::blank().links;
-    let mut i = 0;
-    while i < 384 {
-        out[i] = LinkState {
-            flow: flows[i],
-            status: statuses[i],
-            setting: settings[i],
-        };
-        i += 1;
+impl Lists {
+    pub fn of(s: &State) -> Lists
+        ensures { result ≡ lists_of s.now }
+    {
+        nodes_listed(&s.nodes, links_of(&s.links), s.clock)
     }
-    out
+
+    fn node_states(&self) -> [NodeState; 256]
+        ensures { NodesHold result self.now.heads self.now.demands self.now.demand_flows }
+    {
+        let mut out = State::blank().nodes;
+        for i in 0..256 {
+            out[i] = NodeState {
+                head: self.heads[i],
+                demand: self.demands[i],
+                demand_flow: self.demand_flows[i],
+            };
+        }
+        out
+    }
+
+    fn link_states(&self) -> [LinkState; 384]
+        ensures { LinksHold result self.now.links.flows self.now.links.statuses self.now.links.settings }
+    {
+        let mut out = State::blank().links;
+        for i in 0..384 {
+            out[i] = LinkState {
+                flow: self.links.flows[i],
+                status: self.links.statuses[i],
+                setting: self.links.settings[i],
+            };
+        }
+        out
+    }
+
+    // The state that has these.
+    pub fn state(&self) -> State
+        ensures { lists_of result ≡ self.now }
+    {
+        State {
+            nodes: self.node_states(),
+            links: self.link_states(),
+            clock: self.clock,
+        }
+    }
 }

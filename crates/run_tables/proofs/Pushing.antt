@@ -1,5 +1,6 @@
 -- An index written at the count, which moves on where the test holds. Assumes nothing.
 use Prim.Native.Nat.{ℕ, suc, ◌+◌, ◌<◌}
+use mir.Val.{bool_byte}
 use mathlib.Core.Path.{◌≡◌, refl, sym, ap, ◌∙◌}
 use mathlib.Core.Bool.{Bool, true, false, cond}
 use mathlib.Core.List.{List, [], ◌∷◌, ◌++◌}
@@ -11,6 +12,11 @@ use lib.ListN.{get_or, set, length, length-append, get_or-append}
 use lib.Seq.{get_or-set_same, get_or-set_other, get_or-append_seam}
 use Rattle.run_tables.specs.Chosen.{chosen}
 use Rattle.run_tables.specs.Held.{Pushed}
+
+-- a truth as a number
+pub byte : (b : Bool) → bool_byte b ≡ cond b 1 0
+byte true = refl
+byte false = refl
 
 pub push_none : (test : ℕ → Bool) (array : List ℕ) → Pushed test 0 array 0
 unfolding chosen

@@ -1,81 +1,49 @@
 // The tanks of a table of nodes: where they stand, in node order, and their own numbers.
-ghost use Rattle.std.specs.Prelude.{◌≡◌, true, cond, [], ◌∷◌, ◌+◌, ◌*◌, ◌≤◌, ◌<◌, length};
+ghost use Rattle.std.specs.Prelude.{◌≡◌, true, [], ◌∷◌, ◌*◌, ◌≤◌, ◌<◌};
 ghost use Rattle.model.specs.Nodes.{is_tank};
 ghost use Rattle.model.specs.declared.node.NodeType.TheVariants as types;
 ghost use Rattle.run_tables.specs.Blocks.{block};
 ghost use Rattle.run_tables.specs.Held.{Pushed, TanksLaid};
+ghost use Rattle.run_tables.specs.Rows.{tank_at};
 ghost use Rattle.run_tables.specs.Tanks.{tank_in};
 
+use crate::nodes::{NodeList, nodes_where};
 use model::*;
 use tank::{Feet, Tank};
 
-// The nodes that are tanks, in order; what stands past the count is free.
-#[derive(Clone, Copy)]
-pub struct TankNodes {
-    pub count: usize,
-    pub nodes: [u32; 256],
-}
-
-// Tank k stands at node nodes[k]; its numbers are the five from 5 * k on: elevation, initial, least and greatest level, diameter; overflows[k] is 1
+// Tank k stands at node at.nodes[k]; its numbers are the five from 5 * k on: elevation, initial, least and greatest level, diameter; overflows[k] is 1
 // where it may overflow, else 0.
+// kept: numbers and overflows in arrays of their own, as `tank_at` and the edits `row_of_six`, `row_greatest` and `table_least` have them.
 #[derive(Clone, Copy)]
 pub struct TankTable {
-    pub count: usize,
-    pub nodes: [u32; 256],
+    pub at: NodeList,
     pub numbers: [f64; 1280],
     pub overflows: [u32; 256],
 }
 
-fn no_words() -> [u32; 256]
-    ensures { 256 ≡ length result }
-{
-    [0; 256]
-}
-
-fn no_numbers() -> [f64; 1280]
-    ensures { 1280 ≡ length result }
-{
-    [0.0; 1280]
-}
-
-// 1 for true.
-fn flag(x: bool) -> u32
-    ensures { result ≡ cond x 1 0 }
-{
-    if x {
-        return 1;
+impl TankTable {
+    // Tank k.
+    pub fn tank(&self, k: usize) -> Tank
+        requires { k < 256 }
+        ensures { result ≡ tank_at self.now.numbers self.now.overflows k }
+    {
+        Tank {
+            elevation: Feet(self.numbers[5 * k]),
+            initial_level: Feet(self.numbers[5 * k + 1]),
+            min_level: Feet(self.numbers[5 * k + 2]),
+            max_level: Feet(self.numbers[5 * k + 3]),
+            diameter: Feet(self.numbers[5 * k + 4]),
+            overflow: self.overflows[k] != 0,
+        }
     }
-    0
 }
 
-// A count with one more for a tank.
-fn with_tank(count: usize, n: Node) -> usize
-    requires { count < 256 }
-    ensures { result ≡ count + cond (is_tank n) 1 0 }
-{
-    if n.is_tank() {
-        return count + 1;
-    }
-    count
-}
-
-// The tanks among the first n nodes. An index is pushed without a branch: it is written at the count, which moves on where it is a tank's.
-pub fn tank_nodes(table: [Node; 256], n: usize) -> TankNodes
+// The tanks among the first n nodes.
+pub fn tank_nodes(table: &[Node; 256], n: usize) -> NodeList
     requires { n ≤ 256 }
-    ensures { Pushed (tank_in table) n result.nodes result.count }
+    ensures { Pushed (tank_in table.now) n result.nodes result.count }
 {
-    let mut nodes = no_words();
-    let mut count = 0;
-    let mut i = 0;
-    while i < n {
-        nodes[count] = i as u32;
-        count = with_tank(count, table[i]);
-        i += 1;
-    }
-    TankNodes {
-        count: count,
-        nodes: nodes,
-    }
+    nodes_where(table, n, |x| x.is_tank())
 }
 
 fn no_tank() -> Tank {
@@ -115,27 +83,22 @@ fn put_tank(numbers: &mut [f64; 1280], k: usize, t: Tank)
 }
 
 // The same, with the numbers of each.
-pub fn tank_table(table: [Node; 256], n: usize) -> TankTable
+pub fn tank_table(table: &[Node; 256], n: usize) -> TankTable
     requires { n ≤ 256 }
-    ensures { TanksLaid table n result.nodes result.numbers result.overflows result.count }
+    ensures { TanksLaid table.now n result.at.nodes result.numbers result.overflows result.at.count }
 {
-    let t = tank_nodes(table, n);
-    let count = t.count;
-    let nodes = t.nodes;
-    let mut numbers = no_numbers();
-    let mut overflows = no_words();
-    let mut k = 0;
-    while k < count {
-        let j = nodes[k] as usize;
-        let x = tank_of(table[j]);
-        put_tank(&mut numbers, k, x);
-        overflows[k] = flag(x.overflow);
-        k += 1;
+    let at = tank_nodes(table, n);
+    let mut numbers = [0.0; 1280];
+    let mut overflows = [0; 256];
+    for k in 0..at.count {
+        let j = at.nodes[k] as usize;
+        let tank = tank_of(table[j]);
+        put_tank(&mut numbers, k, tank);
+        overflows[k] = u32::from(tank.overflow);
     }
     TankTable {
-        count: count,
-        nodes: nodes,
-        numbers: numbers,
-        overflows: overflows,
+        at,
+        numbers,
+        overflows,
     }
 }

@@ -1,16 +1,13 @@
 // Every tank's demand from 0: what patterns leave there, and where a load's sum begins.
 ghost use Rattle.std.specs.Prelude.{◌≡◌};
-ghost use Rattle.run_tables.specs.Held.{TanksInside};
 ghost use Rattle.run_tanks.specs.Emptying.{tanks_emptied};
 
-pub fn empty_tanks(nodes: &[u32; 256], n: usize, demands: &mut [f64; 256])
-    requires { TanksInside nodes.now n }
-    ensures { demands.new ≡ tanks_emptied nodes.now n demands.old }
+use run_tables::NodeList;
+
+pub fn empty_tanks(tanks: &NodeList, demands: &mut [f64; 256])
+    ensures { demands.new ≡ tanks_emptied tanks.now.nodes tanks.now.count demands.old }
 {
-    let mut k = 0;
-    while k < n {
-        let node = nodes[k] as usize;
-        demands[node] = 0.0;
-        k += 1;
+    for k in 0..tanks.count {
+        demands[tanks.nodes[k] as usize] = 0.0;
     }
 }

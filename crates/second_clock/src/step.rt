@@ -34,15 +34,13 @@ fn moved_on(s: State, seconds: u32) -> State
     if seconds == 0 {
         return s;
     }
-    let instant = s.clock.instant;
-    let count = s.clock.count;
-    let clock = Clock {
-        instant: instant + seconds,
-        count: count + 1,
-    };
-    let mut st = s;
-    st.clock = clock;
-    st
+    State {
+        clock: Clock {
+            instant: s.clock.instant + seconds,
+            count: s.clock.count + 1,
+        },
+        ..s
+    }
 }
 
 // A step by the second clock: the number, its length in seconds, and the state after it.
@@ -63,12 +61,10 @@ pub fn step_by_seconds(p: Project, s: State) -> StepCalled
             state: s,
         };
     }
-    let controls = p.controls;
-    let length = walk(times_of(p), controls, p.counts.controls, s.clock.instant);
-    let state = moved_on(s, length);
+    let length = walk(times_of(p), &p.controls, p.counts.controls, s.clock.instant);
     StepCalled {
         number: 0,
-        length: length,
-        state: state,
+        length,
+        state: moved_on(s, length),
     }
 }

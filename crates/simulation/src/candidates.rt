@@ -6,24 +6,18 @@ ghost use Rattle.simulation.specs.Steps.{no_tanks, on_fast_path, hydraulic_in_fo
 
 use clock::{Times, clock_time};
 use model::*;
-use number::constants::MAX;
-use run_candidates::*;
-use run_kinds::*;
-use run_state::{demands_of, heads_of};
+use run_kinds::calls_of;
+use run_state::Lists;
 use run_tables::tank_table;
 
 pub fn no_tanks(p: Project) -> bool
     requires { TablesFit p }
     ensures { result ≡ no_tanks p }
 {
-    let n = p.counts.nodes;
-    let mut i = 0;
-    while i < n {
-        let node = p.nodes[i];
-        if node.is_tank() {
+    for i in 0..p.counts.nodes {
+        if p.nodes[i].is_tank() {
             return false;
         }
-        i += 1;
     }
     true
 }
@@ -66,10 +60,11 @@ pub fn times_from(o: Options, fast: bool) -> Times
         report: o.report,
         pattern: o.pattern,
         start_clock: o.start_clock,
-        fast: fast,
+        fast,
     }
 }
 
+#[tactic(auto, unfolding(crate::specs::Steps::times_of))]
 pub fn times_of(p: Project) -> Times
     requires { TablesFit p }
     ensures { result ≡ times_of p }
@@ -82,13 +77,9 @@ pub fn tank_time(p: Project, s: State) -> u64
     requires { TablesFit p }
     ensures { result ≡ tank_time p s }
 {
-    let table = p.nodes;
-    let t = tank_table(table, p.counts.nodes);
-    let n = t.count;
-    let ns = s.nodes;
-    let heads = heads_of(ns);
-    let demands = demands_of(ns);
-    run_tanks::tank_time(&t.nodes, &t.numbers, &t.overflows, n, &heads, &demands)
+    let tanks = tank_table(&p.nodes, p.counts.nodes);
+    let lists = Lists::of(&s);
+    run_tanks::tank_time(&tanks, &lists.heads, &lists.demands)
 }
 
 // The smallest of the controls' candidates that is not 0: over their levels, their times and their clock times.
@@ -96,33 +87,10 @@ pub fn control_time(p: Project, s: State) -> u64
     requires { TablesFit p }
     ensures { result ≡ control_time (times_of p) (triggers_of p) (moment_of p s) s.clock.instant }
 {
-    let table = p.nodes;
-    let controls = p.controls;
-    let n = p.counts.controls;
-    let t = tank_table(table, p.counts.nodes);
-    let tank_count = t.count;
-    let levels = level_calls(controls, n, &t.nodes, tank_count);
-    let times = time_calls(controls, n);
-    let clocks = clock_calls(controls, n);
-    let ns = s.nodes;
-    let heads = heads_of(ns);
-    let demands = demands_of(ns);
+    let tanks = tank_table(&p.nodes, p.counts.nodes);
+    let calls = calls_of(&p.controls, p.counts.controls, &tanks.at);
+    let lists = Lists::of(&s);
     let time = s.clock.instant;
     let clock = clock_time(p.options.start_clock, time);
-    let level_count = levels.count;
-    let by_level = next_level(
-        &levels.tanks,
-        &levels.targets,
-        level_count,
-        &t.nodes,
-        &t.numbers,
-        &t.overflows,
-        &heads,
-        &demands,
-        MAX,
-    );
-    let time_count = times.count;
-    let by_time = next_time(&times.seconds, time_count, time, by_level);
-    let clock_count = clocks.count;
-    next_clock(&clocks.seconds, clock_count, clock, by_time)
+    run_candidates::control_time(&calls, &tanks, &lists.heads, &lists.demands, time, clock)
 }

@@ -146,16 +146,6 @@ module _ (p : Project) (s : State) where
       kept (λ (v : State). v.clock) (node_summed p (close_links p s)) (close_links p s) (λ i v. refl) p.counts.nodes
       ∙ kept (λ (v : State). v.clock) (link_closed p) s (λ i v. refl) p.counts.links
 
--- ---- what the passes leave, packed
-pub closed_lists :
-    (nodes : List ℕ) (numbers : List Float) (overflows : List ℕ) (begins middles links : List ℕ) (n : ℕ) (s r : State) {heads demands demand_flows flows settings demands' : List Float} {statuses statuses' : List ℕ}
-    → heads ≡ heads_of s → demands ≡ demands_of s → demand_flows ≡ demand_flows_of s → flows ≡ flows_of s → statuses ≡ statuses_of s → settings ≡ settings_of s
-    → statuses' ≡ links_closed nodes numbers overflows begins middles links n heads flows statuses
-    → demands' ≡ demands_summed nodes begins middles links n flows demands
-    → NodesHold r.nodes heads demands' demand_flows → LinksHold r.links flows statuses' settings → r.clock ≡ s.clock
-    → lists_of r ≡ lists_closed nodes numbers overflows begins middles links n s
-closed_lists nodes numbers overflows begins middles links n s r h d g f t u a b x y k = lists_made (x.head ∙ h) (x.demand ∙ b ∙ rw (f, d)) (x.demand_flow ∙ g) (links_made (y.flow ∙ f) (y.status ∙ a ∙ rw (h, f, t)) (y.setting ∙ u)) k
-
 -- ---- closing by the tables
 module _ {p : Project} {nodes begins middles links : List ℕ} {numbers : List Float} {overflows : List ℕ} {n : ℕ}
     (fit : TablesFit p) (laid : TanksLaid p.nodes p.counts.nodes nodes numbers overflows n) (there : Stands p begins middles links)

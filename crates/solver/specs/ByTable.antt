@@ -2,7 +2,8 @@
 -- `update_tank_links`.
 use Rattle.std.specs.Prelude.{ℕ, List, Float}
 use Rattle.model.specs.declared.state.State.{State}
-use Rattle.run_state.specs.Lists.{Lists, heads_of, demands_of, demand_flows_of, flows_of, statuses_of, settings_of}
+use Rattle.run_state.specs.declared.Lists.{Lists}
+use Rattle.run_state.specs.Lists.{heads_of, demands_of, demand_flows_of, flows_of, statuses_of, settings_of}
 use Rattle.run_closing.specs.Closing.{links_closed, demands_summed}
 
 abbrev pub lists_closed : List ℕ → List Float → List ℕ → List ℕ → List ℕ → List ℕ → ℕ → State → Lists

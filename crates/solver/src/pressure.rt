@@ -21,20 +21,13 @@ pub fn apply_pressure_controls(p: Project, s: State) -> Pressed
     let mut st = s;
     let mut changed = false;
     let n = p.counts.controls;
-    let mut i = 0;
-    while i < n {
+    for i in 0..n {
         let c = p.controls[i];
-        let condition = c.condition;
-        let w = watched(condition);
+        let w = watched(c.condition);
         let l = c.link;
         let done = press(changed, c, p.nodes[w], st.nodes[w], p.links[l], st.links[l]);
-        let after = done.state;
-        st.links[l] = after;
+        st.links[l] = done.state;
         changed = done.changed;
-        i += 1;
     }
-    Pressed {
-        state: st,
-        changed: changed,
-    }
+    Pressed { state: st, changed }
 }

@@ -1,9 +1,9 @@
 -- The pass over the rows of a project's controls comes to `apply_controls`, for any arrays that hold them and any state. Assumes nothing.
+use Rattle.std.specs.Prelude.{None, Option, Some}
 use Prim.Native.Nat.{ℕ, ◌<◌}
 use mathlib.Core.Path.{◌≡◌, refl, sym, ap, ◌∙◌}
 use mathlib.Core.Bool.{Bool, true, false, cond, not, ◌&&◌, and-false}
 use mathlib.Core.List.{List}
-use native.Mathlib.Omega.{arith}
 use lib.Dec.{eqb}
 use lib.Ieee.{Float, nan, le, neg}
 use lib.ListN.{get_or, get_or-map}
@@ -19,10 +19,6 @@ use Rattle.model.specs.Nodes.{elevation, is_tank}
 use Rattle.model.specs.declared.control.Control.{Control}
 use Rattle.model.specs.declared.control.ControlCondition.{ControlCondition}
 use Rattle.model.specs.declared.control.ControlCondition.TheVariants.{HighPressure, LowPressure, HighLevel, LowLevel, Time, ClockTime}
-use Rattle.model.specs.declared.control.SettingAction.{SettingAction}
-use Rattle.model.specs.declared.control.SettingAction.TheVariants.{KeepSetting, SetSetting}
-use Rattle.model.specs.declared.control.StatusAction.{StatusAction}
-use Rattle.model.specs.declared.control.StatusAction.TheVariants.{KeepStatus, SetStatus}
 use Rattle.model.specs.declared.link.Link.{Link}
 use Rattle.model.specs.declared.node.Node.{Node}
 use Rattle.model.specs.declared.project.Project.{Project}
@@ -32,13 +28,13 @@ use Rattle.model.specs.declared.state.State.{State}
 use Rattle.model.proofs.Loops.{kept}
 use Rattle.model.proofs.Pointwise.{map_set, carried_keeping}
 use Rattle.run_controls.specs.Apply.{due_by, is_due, acted, link_in, with_link_in, row_turn, links_after}
-use Rattle.run_rows.specs.Rows.{kind_of, row_from, row_in, RowsLaid, RowsInside}
+use Rattle.run_rows.specs.Rows.{kind_of, row_from, row_in, RowsLaid}
 use Rattle.run_rows.specs.declared.rows.Row.{Row}
-use Rattle.run_state.specs.Lists.{head_of, heads_of, flow_of, flows_of, status_of, statuses_of, setting_of, settings_of, links_of, LinksHold}
-use Rattle.run_state.proofs.Apart.{same_state, packed, links_changed}
-use Rattle.tables.specs.Fit.{TablesFit}
+use Rattle.run_state.specs.Lists.{head_of, heads_of, flow_of, status_of, setting_of, links_of, lists_of}
+use Rattle.run_state.specs.declared.Links.{Links}
+use Rattle.run_state.specs.declared.Lists.{Lists}
+use Rattle.run_state.proofs.Apart.{same_state, links_changed}
 use Rattle.state.specs.Controls.{control_turn, apply_controls}
-use Rattle.state.proofs.Inside.{watched_inside, controlled_inside}
 
 -- ---- one control
 -- a level control: its kind is 0 where its node is no tank
@@ -73,11 +69,11 @@ acted_is : (on : Bool) (c : Control) (n : Node) (l : Link) (x : LinkState) → a
 unfolding acted
 acted_is on c n l x = by c.status c.setting
   where
-    by : (a : StatusAction) (b : SettingAction) → acted on (row_from (record { condition = c.condition; link = c.link; status = a; setting = b }) n l) x
+    by : (a : Option ℕ) (b : Option Float) → acted on (row_from (record { condition = c.condition; link = c.link; status = a; setting = b }) n l) x
         ≡ cond on (activate (record { condition = c.condition; link = c.link; status = a; setting = b }) l x).state x
-    by (SetStatus v) b = refl
-    by KeepStatus (SetSetting v) = refl
-    by KeepStatus KeepSetting = refl
+    by (Some v) b = refl
+    by None (Some v) = refl
+    by None None = refl
 
 picked : {A : Type 0} (over active : Bool) (a x : A) → cond (not over && active) a x ≡ cond over x (cond active a x)
 picked true active a x = refl
@@ -152,32 +148,14 @@ apply_controls_is p {words} {numbers} {n} laid s =
         r : Row
         r = row_in p.controls p.nodes p.links k
 
--- ---- the call: the rows are inside, and the pass on what was unpacked of a state is packed again
-pub rows_inside : {p : Project} {words : List ℕ} {numbers : List Float} {n : ℕ}
-    → TablesFit p → RowsLaid p.controls p.counts.controls p.nodes p.links words numbers n → RowsInside words n
-rows_inside {p} {words} {numbers} {n} fit laid = record {
-  most = omega (arith, laid.count, fit.few.controls);
-  node = λ i l. let e = ap (λ (r : Row). r.node) (laid.row i l) in let h = watched_inside fit i (below i l) in omega (arith, e, h);
-  link = λ i l. let e = ap (λ (r : Row). r.link) (laid.row i l) in let h = controlled_inside fit i (below i l) in omega (arith, e, h);
-}
-  where
-    below : (i : ℕ) → i < n → i < p.counts.controls
-    below i l = omega (arith, laid.count)
-
-same_pass : (words : List ℕ) (numbers : List Float) (n time : ℕ) {h h' a a' c c' : List Float} {b b' : List ℕ} {t t' : ℕ} → h ≡ h' → t ≡ t' → a ≡ a' → b ≡ b' → c ≡ c'
-    → links_after words numbers n h time t (record { flows = a; statuses = b; settings = c })
-    ≡ links_after words numbers n h' time t' (record { flows = a'; statuses = b'; settings = c' })
-same_pass words numbers n time h t a b c = rw (h, t, a, b, c)
-
+-- ---- the call: the pass on the lists of a state, made a state again
 pub controls_packed :
-    (p : Project) (s : State) (ls : List LinkState) {words : List ℕ} {numbers heads flows settings flows' settings' : List Float} {statuses statuses' : List ℕ} {n hour : ℕ}
+    (p : Project) (s r : State) {words : List ℕ} {numbers : List Float} {n hour : ℕ} {before : Lists} {links : Links}
     → RowsLaid p.controls p.counts.controls p.nodes p.links words numbers n
-    → heads ≡ heads_of s → hour ≡ clock_time p.options.start_clock s.clock.instant
-    → flows ≡ flows_of s → statuses ≡ statuses_of s → settings ≡ settings_of s
-    → links_after words numbers n heads s.clock.instant hour (record { flows = flows; statuses = statuses; settings = settings })
-    ≡ record { flows = flows'; statuses = statuses'; settings = settings' }
-    → LinksHold ls flows' statuses' settings' → record { nodes = s.nodes; links = ls; clock = s.clock } ≡ apply_controls p s
-controls_packed p s ls laid h t a b c after holds =
-    same_state (record { nodes = s.nodes; links = ls; clock = s.clock }) (apply_controls p s)
-    (packed (record { nodes = s.nodes; links = ls; clock = s.clock }) {ls = record { flows = _; statuses = _; settings = _ }} (record { head = refl; demand = refl; demand_flow = refl }) holds
-    ∙ links_changed s (apply_controls p s) (sym after ∙ same_pass _ _ _ _ h t a b c ∙ apply_controls_is p laid s) (controls_keep_nodes p s) (controls_keep_clock p s))
+    → before ≡ lists_of s → hour ≡ clock_time p.options.start_clock s.clock.instant
+    → links ≡ links_after words numbers n before.heads s.clock.instant hour before.links
+    → lists_of r ≡ record { heads = before.heads; demands = before.demands; demand_flows = before.demand_flows; links = links; clock = before.clock }
+    → r ≡ apply_controls p s
+controls_packed p s r laid b h after packed =
+    same_state r (apply_controls p s)
+    (packed ∙ rw (after, b, h) (links_changed s (apply_controls p s) (apply_controls_is p laid s) (controls_keep_nodes p s) (controls_keep_clock p s)))

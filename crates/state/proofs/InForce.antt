@@ -1,5 +1,6 @@
 -- At the period whose patterns are in force, applying patterns only empties the tanks' demands; applying them puts its period's in force, and what a turn does
 -- beside the patterns leaves them so. Assumes nothing.
+use Rattle.std.specs.Prelude.{None, Option, Some}
 use Prim.Native.Nat.{ℕ, zero, suc, ◌+◌, ◌/◌, ◌≤◌, ◌<◌}
 use mathlib.Core.Path.{◌≡◌, refl, sym, ap, ◌∙◌, subst}
 use mathlib.Core.Bool.{Bool, true, false, cond, true≢false}
@@ -18,8 +19,6 @@ use Rattle.model.specs.Patterns.{period}
 use Rattle.model.specs.declared.node.NodeType.{NodeType}
 use Rattle.model.specs.declared.node.NodeType.TheVariants.{Reservoir, Tank, Junction}
 use Rattle.model.specs.declared.options.Options.{Options}
-use Rattle.model.specs.declared.pattern.PatternIndex.{PatternIndex}
-use Rattle.model.specs.declared.pattern.PatternIndex.TheVariants.{NoPattern, PatternAt}
 use Rattle.model.specs.declared.project.Project.{Project}
 use Rattle.model.specs.declared.state.NodeState.{NodeState}
 use Rattle.model.specs.declared.state.State.{State}
@@ -102,7 +101,7 @@ flow_stays : (pda : Bool) (demand flow : Float) → (pda ≡ true → flow ≡ d
 flow_stays true demand flow h = sym (h refl)
 flow_stays false demand flow h = refl
 
-again : (m : PatternIndex → Float) (o : Options) (k : NodeType) (x : NodeState)
+again : (m : Option ℕ → Float) (o : Options) (k : NodeType) (x : NodeState)
     → (is_tank_type k ≡ false → x.demand ≡ pattern_demand m o.default_pattern o.demand_multiplier k)
     → pattern_head m k x.head ≡ x.head
     → (o.pda ≡ true → x.demand_flow ≡ pattern_demand m o.default_pattern o.demand_multiplier k)
@@ -124,11 +123,11 @@ apply_patterns_again {p} s force =
     (λ k x l q. let w = q.node k l in ap (with_node x k) (again (multiplier_of p (period_of p s)) p.options (node_at p k).kind (node_state_at x k) w.demand w.head w.flow))
 
 -- ---- in force after it
-reservoir_twice : (m : PatternIndex → Float) (q : PatternIndex) (e h : Float) → reservoir_head m q e (reservoir_head m q e h) ≡ reservoir_head m q e h
-reservoir_twice m NoPattern e h = refl
-reservoir_twice m (PatternAt k) e h = refl
+reservoir_twice : (m : Option ℕ → Float) (q : Option ℕ) (e h : Float) → reservoir_head m q e (reservoir_head m q e h) ≡ reservoir_head m q e h
+reservoir_twice m None e h = refl
+reservoir_twice m (Some k) e h = refl
 
-head_twice : (m : PatternIndex → Float) (k : NodeType) (h : Float) → pattern_head m k (pattern_head m k h) ≡ pattern_head m k h
+head_twice : (m : Option ℕ → Float) (k : NodeType) (h : Float) → pattern_head m k (pattern_head m k h) ≡ pattern_head m k h
 head_twice m (Reservoir r) h = reservoir_twice m r.head_pattern r.elevation h
 head_twice m (Tank t) h = refl
 head_twice m (Junction j) h = refl

@@ -15,8 +15,9 @@ use Rattle.model.specs.declared.state.NodeState.{NodeState}
 use Rattle.model.specs.declared.state.State.{State}
 use Rattle.model.proofs.Loops.{kept}
 use Rattle.model.proofs.Pointwise.{carried_keeping, map_set}
-use Rattle.run_state.specs.Lists.{head_of, demand_of, demand_flow_of, heads_of, demands_of, demand_flows_of, NodesHold}
-use Rattle.run_state.proofs.Apart.{same_state}
+use Rattle.run_state.specs.declared.Lists.{Lists}
+use Rattle.run_state.specs.Lists.{head_of, demand_of, demand_flow_of, heads_of, demands_of, demand_flows_of, links_listed, lists_of}
+use Rattle.run_state.proofs.Apart.{same_state, lists_made}
 use Rattle.run_tables.specs.Held.{TanksLaid}
 use Rattle.run_tables.specs.Rows.{tank_at}
 use Rattle.run_tables.specs.Tanks.{tank_nodes}
@@ -99,22 +100,10 @@ module _ (p : Project) (s : State) (seconds : ℕ) where
   moved_clock = kept (λ (v : State). v.clock) (node_moved p seconds) s (λ i v. refl) p.counts.nodes
 
 -- ---- packed again
--- a state that has the heads of t and all else of s, as t has
-nodes_changed : (s t : State) (ns : List NodeState) {heads : List Float} → NodesHold ns heads (demands_of s) (demand_flows_of s)
-    → heads ≡ heads_of t → demands_of t ≡ demands_of s → demand_flows_of t ≡ demand_flows_of s → t.links ≡ s.links → t.clock ≡ s.clock
-    → record { nodes = ns; links = s.links; clock = s.clock } ≡ t
-nodes_changed s t ns h e d f l c =
-    same_state (record { nodes = ns; links = s.links; clock = s.clock }) t
-    (rw (h.head, h.demand, h.demand_flow, e, d, f, l, c))
-
 pub moved_packed :
     (p : Project) {nodes : List ℕ} {numbers : List Float} {overflows : List ℕ} {n : ℕ} → TanksLaid p.nodes p.counts.nodes nodes numbers overflows n
-    → (s : State) (seconds : ℕ) {heads demands flows after : List Float} (ns : List NodeState)
-    → heads ≡ heads_of s → demands ≡ demands_of s → flows ≡ demand_flows_of s
-    → after ≡ heads_after nodes numbers overflows n demands seconds heads → NodesHold ns after demands flows
-    → record { nodes = ns; links = s.links; clock = s.clock } ≡ update_tanks p s seconds
-moved_packed p {nodes} {numbers} {overflows} {n} laid s seconds {heads} {demands} {flows} {after} ns eh ed ef ea h =
-    nodes_changed s (update_tanks p s seconds) ns
-    (rw (← ed, ← ef) h)
-    (ea ∙ rw (ed, eh) (move_tanks_is p laid s seconds))
-    (moved_demands p s seconds) (moved_demand_flows p s seconds) (moved_links p s seconds) (moved_clock p s seconds)
+    → (s : State) (seconds : ℕ) (r : State) {ls : Lists} {after : List Float} → ls ≡ lists_of s
+    → after ≡ heads_after nodes numbers overflows n ls.demands seconds ls.heads
+    → lists_of r ≡ record { heads = after; demands = ls.demands; demand_flows = ls.demand_flows; links = ls.links; clock = ls.clock } → r ≡ update_tanks p s seconds
+moved_packed p {nodes} {numbers} {overflows} {n} laid s seconds r {ls} {after} e a h =
+    same_state r (update_tanks p s seconds) (h ∙ rw (a, e) (lists_made (move_tanks_is p laid s seconds) (sym (moved_demands p s seconds)) (sym (moved_demand_flows p s seconds)) (ap links_listed (sym (moved_links p s seconds))) (sym (moved_clock p s seconds))))

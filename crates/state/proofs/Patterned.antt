@@ -1,8 +1,9 @@
 -- The passes over a run's demands and heads leave what `apply_patterns` leaves. Assumes nothing.
+use Rattle.std.specs.Prelude.{None, Option, Some}
 use Prim.Native.Nat.{ℕ, ◌≤◌, ◌<◌}
 use mathlib.Core.Path.{◌≡◌, refl, sym, ap, ◌∙◌, subst}
 use mathlib.Core.Bool.{Bool, true, false, cond, true≢false}
-use mathlib.Core.List.{List, map}
+use mathlib.Core.List.{List}
 use native.Mathlib.Omega.{arith}
 use lib.Ieee.{Float, nan}
 use lib.ListN.{get_or, set, length, length-map, get_or-map}
@@ -14,20 +15,20 @@ use Rattle.model.specs.Nodes.{elevation, elevation_of}
 use Rattle.model.specs.Patterns.{period}
 use Rattle.model.specs.declared.node.NodeType.{NodeType}
 use Rattle.model.specs.declared.node.NodeType.TheVariants.{Reservoir, Tank, Junction}
-use Rattle.model.specs.declared.pattern.PatternIndex.{PatternIndex}
-use Rattle.model.specs.declared.pattern.PatternIndex.TheVariants.{NoPattern, PatternAt}
 use Rattle.model.specs.declared.project.Project.{Project}
-use Rattle.model.specs.declared.state.LinkState.{LinkState}
 use Rattle.model.specs.declared.state.NodeState.{NodeState}
 use Rattle.model.specs.declared.state.State.{State}
 use Rattle.model.proofs.Each.{below}
 use Rattle.model.proofs.Loops.{kept}
 use Rattle.model.proofs.Pointwise.{same_turns, carried, map_set}
-use Rattle.run_periods.specs.Applying.{Written, Inputs, filled}
+use Rattle.run_periods.specs.Applying.{Written, Inputs, inputs_of, written_in, filled}
 use Rattle.run_patterns.specs.Filling.{demand_put, demand_sum, demands_filled, head_put, heads_filled, demand_copied, demands_copied}
+use Rattle.run_sources.specs.Laid.{PatternsLaid}
 use Rattle.run_sources.specs.Lengths.{LengthsLaid}
 use Rattle.run_sources.specs.Sources.{DemandsLaid, head_pattern_of, is_pattern, patterned_in, HeadsLaid}
-use Rattle.run_state.specs.Lists.{NodesHold, head_of, demand_of, demand_flow_of, heads_of, demands_of, demand_flows_of, flow_of, status_of, setting_of}
+use Rattle.run_sources.specs.declared.PatternTables.{PatternTables}
+use Rattle.run_state.specs.Lists.{NodesHold, head_of, demand_of, demand_flow_of, heads_of, demands_of, demand_flows_of, links_listed, lists_of}
+use Rattle.run_state.specs.declared.Lists.{Lists}
 use Rattle.run_state.proofs.Apart.{same_state, lists_made}
 use Rattle.run_tables.specs.Chosen.{chosen}
 use Rattle.run_tables.proofs.Along.{chosen_along, held_along}
@@ -61,7 +62,7 @@ module _ (p : Project) (s : State) (table : List Float) (long : length table ≡
   abbrev N : ℕ
   N = p.counts.nodes
 
-  abbrev m : PatternIndex → Float
+  abbrev m : Option ℕ → Float
   m = multiplier_of p (period_of p s)
 
   abbrev now : List Float
@@ -119,13 +120,13 @@ module _ (p : Project) (s : State) (table : List Float) (long : length table ≡
             sym (kept demand_flows_of (node_patterned p m) s (λ k x. map-set_same demand_flow_of x.nodes k _ blank_node_state (by_pda k (node_state_at x k) false e)) N)
 
   -- ---- heads
-  reservoir_is : (q : PatternIndex) (e h : Float) → is_pattern q ≡ true → e · m q ≡ reservoir_head m q e h
-  reservoir_is NoPattern e h w = absurd (true≢false (sym w))
-  reservoir_is (PatternAt k) e h w = refl
+  reservoir_is : (q : Option ℕ) (e h : Float) → is_pattern q ≡ true → e · m q ≡ reservoir_head m q e h
+  reservoir_is None e h w = absurd (true≢false (sym w))
+  reservoir_is (Some k) e h w = refl
 
-  reservoir_stays : (q : PatternIndex) (e h : Float) → is_pattern q ≡ false → reservoir_head m q e h ≡ h
-  reservoir_stays NoPattern e h w = refl
-  reservoir_stays (PatternAt k) e h w = absurd (true≢false w)
+  reservoir_stays : (q : Option ℕ) (e h : Float) → is_pattern q ≡ false → reservoir_head m q e h ≡ h
+  reservoir_stays None e h w = refl
+  reservoir_stays (Some k) e h w = absurd (true≢false w)
 
   head_is : (k : NodeType) (h : Float) → is_pattern (head_pattern_of k) ≡ true → elevation_of k · m (head_pattern_of k) ≡ pattern_head m k h
   head_is (Reservoir r) h w = reservoir_is r.head_pattern r.elevation h w
@@ -196,12 +197,31 @@ module _ (p : Project) (s : State) where
   unfolding apply_patterns
   patterned_clock = kept (λ (v : State). v.clock) (node_patterned p (multiplier_of p (period_of p s))) s (λ i v. refl) p.counts.nodes
 
--- ---- what the passes leave, packed
-pub patterns_packed : (p : Project) {t : Inputs} (w : Written) {u : Written} (s r : State) → InputsLaid p t → Holds s w → length w.table ≡ 33 → p.counts.nodes ≤ length s.nodes
-    → filled t s.clock.instant w ≡ u → Holds r u → r.links ≡ s.links → r.clock ≡ s.clock → r ≡ apply_patterns p s
-patterns_packed p w s r laid before long room e n l k =
-    let h = subst (Holds (apply_patterns p s)) e (filled_is s w laid before long room) in
+-- ---- the tables of a project are those of its passes
+pub inputs_laid : {p : Project} {t : PatternTables} → PatternsLaid p.options p.lengths p.nodes p.counts.nodes t → length p.multipliers ≡ 5376 → InputsLaid p (inputs_of t p.multipliers)
+inputs_laid laid long = record {
+  lengths = laid.lengths_laid;
+  multipliers = refl;
+  long = long;
+  start = laid.start;
+  timestep = laid.timestep;
+  scale = laid.scale;
+  pda = laid.pda;
+  n = laid.count;
+  demands = laid.demands;
+  heads = laid.heads;
+}
+
+-- ---- the call: the passes over the lists of a state, made a state again
+pub patterns_packed : (p : Project) (s r : State) {t : Inputs} (table : List Float) {table' : List Float} {before after : Lists} → InputsLaid p t → length table ≡ 33 → p.counts.nodes ≤ length s.nodes
+    → before ≡ lists_of s → filled t s.clock.instant (written_in table before) ≡ written_in table' after → after.links ≡ before.links → after.clock ≡ before.clock
+    → lists_of r ≡ after → r ≡ apply_patterns p s
+patterns_packed p s r {t} table {table'} {before} {after} laid long room b e l k packed =
     same_state r (apply_patterns p s)
-    (lists_made (n.head ∙ sym h.head) (n.demand ∙ sym h.demand) (n.demand_flow ∙ sym h.demand_flow)
-    (ap (λ (x : List LinkState). record { flows = map flow_of x; statuses = map status_of x; settings = map setting_of x }) (l ∙ sym (patterned_links p s)))
-    (k ∙ sym (patterned_clock p s)))
+    (packed ∙ lists_made (sym h.head) (sym h.demand) (sym h.demand_flow) (l ∙ ap (λ (x : Lists). x.links) b ∙ ap links_listed (sym (patterned_links p s))) (k ∙ ap (λ (x : Lists). x.clock) b ∙ sym (patterned_clock p s)))
+  where
+    held : Holds s (written_in table before)
+    held = rw b (record { head = refl; demand = refl; demand_flow = refl })
+
+    h : Holds (apply_patterns p s) (written_in table' after)
+    h = subst (Holds (apply_patterns p s)) e (filled_is s (written_in table before) laid held long room)

@@ -1,4 +1,5 @@
 -- The table of an instant's multipliers gives each pattern its multiplier, and node by node the pattern's demand. Assumes nothing.
+use Rattle.std.specs.Prelude.{None, Option, Some}
 use Prim.Native.Nat.{ℕ, ◌*◌, ◌≤◌, ◌<◌}
 use mathlib.Core.Path.{◌≡◌, refl, sym, ap, ◌∙◌}
 use mathlib.Core.Bool.{Bool, true, false, cond}
@@ -20,8 +21,6 @@ use Rattle.model.specs.declared.node.Demands.TheVariants.{NoDemand, One, Two, Th
 use Rattle.model.specs.declared.node.Node.{Node}
 use Rattle.model.specs.declared.node.NodeType.{NodeType}
 use Rattle.model.specs.declared.node.NodeType.TheVariants.{Reservoir, Tank, Junction}
-use Rattle.model.specs.declared.pattern.PatternIndex.{PatternIndex}
-use Rattle.model.specs.declared.pattern.PatternIndex.TheVariants.{NoPattern, PatternAt}
 use Rattle.model.specs.declared.project.Project.{Project}
 use Rattle.model.proofs.Each.{changed, same_length, below}
 use Rattle.model.proofs.Pointwise.{same_turns}
@@ -77,10 +76,10 @@ module _ (p : Project) (time : ℕ) (table : List Float) where
         get_or-set_other (through 32 (changed value nan) table) 32 k (decimal 1 0) nan (λ q. omega arith) ∙ below value nan table 32 k l (omega arith)
     entry k false e = none_at
 
-    pub multiplier_is : (q : PatternIndex) → get_or multipliers_of (place_of q) nan ≡ multiplier_of p t q
+    pub multiplier_is : (q : Option ℕ) → get_or multipliers_of (place_of q) nan ≡ multiplier_of p t q
     unfolding multiplier_of
-    multiplier_is NoPattern = none_at
-    multiplier_is (PatternAt k) = entry k (ltb k 32) refl
+    multiplier_is None = none_at
+    multiplier_is (Some k) = entry k (ltb k 32) refl
 
 -- ---- demands
 -- a list of demands, added up
@@ -95,7 +94,7 @@ sum_is f (Two a b) = refl
 sum_is f (Three a b c) = refl
 sum_is f (Four a b c d) = refl
 
-node_sum : (m : PatternIndex → Float) (default : PatternIndex) (scale : Float) (k : NodeType) → added_up (demand_of m default scale) (demands_in k) ≡ pattern_demand m default scale k
+node_sum : (m : Option ℕ → Float) (default : Option ℕ) (scale : Float) (k : NodeType) → added_up (demand_of m default scale) (demands_in k) ≡ pattern_demand m default scale k
 unfolding through junction_demand
 node_sum m default scale (Reservoir r) = refl
 node_sum m default scale (Tank t) = refl
@@ -106,14 +105,14 @@ node_sum m default scale (Junction j) = by j.disabled
     by false = sum_is (demand_of m default scale) j.demands
 
 -- one demand, by its base, its place in the table and what stands there
-one_is : (m : PatternIndex → Float) (default : PatternIndex) (scale x base : Float) (d : Demand) (table : List Float) (place : ℕ) → ((q : PatternIndex) → get_or table (place_of q) nan ≡ m q)
+one_is : (m : Option ℕ → Float) (default : Option ℕ) (scale x base : Float) (d : Demand) (table : List Float) (place : ℕ) → ((q : Option ℕ) → get_or table (place_of q) nan ≡ m q)
     → base ≡ d.base → place ≡ place_of (or_default default d.pattern) → x ⊕ base · get_or table place nan · scale ≡ x ⊕ demand_of m default scale d
 unfolding demand_of
 one_is m default scale x base d table place h b e = rw (b, e, h (or_default default d.pattern))
 
 pub demand_is :
-    {nodes : List Node} {n : ℕ} {default : PatternIndex} {counts : List ℕ} {bases : List Float} {places : List ℕ} → DemandsLaid nodes n default counts bases places
-    → (scale : Float) (m : PatternIndex → Float) (table : List Float) → ((q : PatternIndex) → get_or table (place_of q) nan ≡ m q) → (i : ℕ) → i < n
+    {nodes : List Node} {n : ℕ} {default : Option ℕ} {counts : List ℕ} {bases : List Float} {places : List ℕ} → DemandsLaid nodes n default counts bases places
+    → (scale : Float) (m : Option ℕ → Float) (table : List Float) → ((q : Option ℕ) → get_or table (place_of q) nan ≡ m q) → (i : ℕ) → i < n
     → demand_sum bases places table scale i (get_or counts i 0) ≡ pattern_demand m default scale (get_or nodes i blank_node).kind
 unfolding demand_sum
 demand_is {nodes} {n} {default} {counts} {bases} {places} laid scale m table h i l =

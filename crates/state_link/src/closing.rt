@@ -5,6 +5,7 @@ ghost use Rattle.state_link.specs.Closing.{fill_closed, empty_closed};
 use tank::Tank;
 
 // A tank at or above its greatest level that does not overflow.
+#[tactic(auto, unfolding(crate::specs::Closing::fill_closed))]
 pub fn fill_closed(t: Tank, head: f64) -> bool
     ensures { result ≡ fill_closed t head }
 {
@@ -12,6 +13,7 @@ pub fn fill_closed(t: Tank, head: f64) -> bool
 }
 
 // A tank at or below its least level.
+#[tactic(auto, unfolding(crate::specs::Closing::empty_closed))]
 pub fn empty_closed(t: Tank, head: f64) -> bool
     ensures { result ≡ empty_closed t head }
 {

@@ -8,17 +8,14 @@ use model::*;
 fn is_pressure(condition: ControlCondition) -> bool
     ensures { result ≡ is_pressure condition }
 {
-    match condition {
-        ControlCondition::HighPressure { node: _, target: _ } => true,
-        ControlCondition::LowPressure { node: _, target: _ } => true,
-        ControlCondition::HighLevel { tank: _, target: _ } => false,
-        ControlCondition::LowLevel { tank: _, target: _ } => false,
-        ControlCondition::Time { seconds: _ } => false,
-        ControlCondition::ClockTime { seconds: _ } => false,
-    }
+    matches!(
+        condition,
+        ControlCondition::HighPressure { .. } | ControlCondition::LowPressure { .. }
+    )
 }
 
 // Whether a control is activated: nothing has changed before it in this pass, and it is a pressure control that is active.
+#[tactic(auto, unfolding(crate::specs::Pressure::presses))]
 fn presses(changed: bool, condition: ControlCondition, node: Node, state: NodeState) -> bool
     ensures { result ≡ presses changed condition node state }
 {
@@ -26,6 +23,7 @@ fn presses(changed: bool, condition: ControlCondition, node: Node, state: NodeSt
 }
 
 // A control's turn on its link: `changed` says whether an earlier one has changed something, and in the answer whether one has by now.
+#[tactic(auto, unfolding(crate::specs::Pressure::press))]
 pub fn press(
     changed: bool,
     c: Control,
@@ -36,12 +34,8 @@ pub fn press(
 ) -> Activated
     ensures { result ≡ press changed c node node_state link x }
 {
-    let condition = c.condition;
-    if presses(changed, condition, node, node_state) {
+    if presses(changed, c.condition, node, node_state) {
         return activate(c, link, x);
     }
-    Activated {
-        state: x,
-        changed: changed,
-    }
+    Activated { state: x, changed }
 }

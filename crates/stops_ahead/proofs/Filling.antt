@@ -10,6 +10,7 @@ use lib.Dec.{ltb}
 use borrow.Author.Tests.{ltb-true, ltb-false}
 use lib.ListN.{length, take, drop, set, get_or, length-append, length-set}
 use lib.Seq.{take_all, take_at, drop-cons, set_at, append_snoc}
+use Rattle.std.specs.Prelude.{Option}
 use Rattle.clock.specs.declared.length.Times.{Times}
 use Rattle.model.specs.declared.control.Control.{Control}
 use Rattle.model.proofs.Loops.{both_left, both_right}
@@ -67,17 +68,17 @@ goes_off a b c d e = by (ltb a b) refl e
     by false q z = inl (ltb-false a b q)
 
 -- ---- of the stops: what is said of the lists that the controls were read into holds of any controls that they were read from
-pub record Known (o : Times) (times clocks : List ℕ) (count : ℕ) (controls : List Control) : Type 0 where
+pub record Known (o : Times) (times clocks : List (Option ℕ)) (count : ℕ) (controls : List Control) : Type 0 where
   pub timely : Timely o controls count
   pub noted : (times ≡ notes time_of controls count) × (clocks ≡ notes clock_of controls count)
 
-pub record Stops (o : Times) (times clocks : List ℕ) (count from : ℕ) (before out : List ℕ) (time n : ℕ) : Type 0 where
+pub record Stops (o : Times) (times clocks : List (Option ℕ)) (count from : ℕ) (before out : List ℕ) (time n : ℕ) : Type 0 where
   pub same : length out ≡ length before
   pub of :
       (controls : List Control) → Known o times clocks count controls
       → Filling (stops_above o (triggers_in controls count) from) (stops_above o (triggers_in controls count) time) before out n
 
-module _ {o : Times} {times clocks : List ℕ} {count from : ℕ} {before : List ℕ} where
+module _ {o : Times} {times clocks : List (Option ℕ)} {count from : ℕ} {before : List ℕ} where
   pub stops_begun : Stops o times clocks count from before before from 0
   stops_begun = record { same = refl; of = λ controls k. filling_begun }
 

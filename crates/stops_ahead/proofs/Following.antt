@@ -3,8 +3,6 @@
 use Prim.Native.Nat.{ℕ, ◌+◌, ◌<◌}
 use mathlib.Core.Path.{◌≡◌, refl, ◌∙◌}
 use mathlib.Core.List.{List, [], ◌∷◌}
-use native.Mathlib.Omega.{arith}
-use borrow.Author.Tests.{ne_eqb}
 use Rattle.number.specs.Constants.{MAX}
 use Rattle.clock.specs.Lawful.{Each}
 use Rattle.clock.specs.Steps.{clock_time, smaller_positive}
@@ -17,9 +15,9 @@ use Rattle.simulation.proofs.Smallest.{smallest_through}
 use Rattle.stops.specs.Stops.{stops_above}
 use Rattle.stops.specs.Tankless.{NoLevelTime, NoTankTime}
 use Rattle.stops.proofs.Lists.{above_first}
-use Rattle.awaited.specs.Awaited.{NEVER, time_of, clock_of, trigger_in, triggers_in, notes}
+use Rattle.awaited.specs.Awaited.{time_of, clock_of, trigger_in, triggers_in, notes}
 use Rattle.awaited.proofs.Notes.{notes_at}
-use Rattle.stops_ahead.specs.Ahead.{awaited_candidate, smaller_awaited, awaited_time, next_after, Waits, Timely}
+use Rattle.stops_ahead.specs.Ahead.{awaited_candidate, smaller_awaited, awaited_time, next_after, Timely}
 
 -- ---- a moment without tanks
 abbrev still : Moment Level
@@ -39,11 +37,11 @@ tankless : (ts : List (Trigger Level)) → NoTankTime ts still
 tankless ts = record { tank = refl; level = no_levels ts }
 
 -- ---- the controls
-waited : (t : Trigger Level) (time clock : ℕ) → Waits t → awaited_candidate (time_of t) (clock_of t) time clock ≡ candidate_of (λ l. MAX) time clock t
-waited (at_time s) time clock w = rw (ne_eqb s NEVER (λ e. omega arith))
-waited (at_clock s) time clock w = rw (ne_eqb s NEVER (λ e. omega arith))
-waited (at_level l) time clock w = refl
-waited untimed time clock w = refl
+waited : (t : Trigger Level) (time clock : ℕ) → awaited_candidate (time_of t) (clock_of t) time clock ≡ candidate_of (λ l. MAX) time clock t
+waited (at_time s) time clock = refl
+waited (at_clock s) time clock = refl
+waited (at_level l) time clock = refl
+waited untimed time clock = refl
 
 module _ {o : Times} {controls : List Control} {n : ℕ} (f : Timely o controls n) (time : ℕ) where
   abbrev clock : ℕ
@@ -53,7 +51,7 @@ module _ {o : Times} {controls : List Control} {n : ℕ} (f : Timely o controls 
       → smaller_awaited (notes time_of controls n) (notes clock_of controls n) time clock i smallest ≡ smaller_positive (candidate o still time (trigger_in controls i)) smallest
   unfolding candidate
   one_waited i smallest l =
-      rw (notes_at time_of controls n i f.few l, notes_at clock_of controls n i f.few l, waited (trigger_in controls i) time clock (f.waits i l))
+      rw (notes_at time_of controls n i f.few l, notes_at clock_of controls n i f.few l, waited (trigger_in controls i) time clock)
 
   all_waited : awaited_time (notes time_of controls n) (notes clock_of controls n) n time clock ≡ control_time o (triggers_in controls n) still time
   unfolding awaited_time control_time

@@ -5,30 +5,24 @@ use mathlib.Core.Path.{◌≡◌, refl, sym, subst}
 use mathlib.Core.Logic.{◌⊎◌, inl, inr}
 use mathlib.Core.Bool.{Bool, true, false, cond, not, ◌&&◌, ◌||◌}
 use mathlib.Core.List.{List, [], ◌∷◌}
-use native.Mathlib.Omega.{arith}
 use lib.Dec.{leb}
 use lib.ListN.{length, take, get_or}
 use borrow.Author.Tests.{leb-true, not-true}
+use Rattle.std.specs.Prelude.{Ok, Err}
 use Rattle.clock.specs.Steps.{DAY}
 use Rattle.clock.specs.declared.length.Times.{Times}
-use Rattle.model.specs.Blank.{control_at}
-use Rattle.model.specs.declared.control.ControlCondition.{ControlCondition}
-use Rattle.model.specs.declared.control.ControlCondition.TheVariants.{HighPressure, LowPressure, HighLevel, LowLevel, Time, ClockTime}
 use Rattle.model.specs.declared.project.Project.{Project}
 use Rattle.model.proofs.Loops.{both_left, both_right}
-use Rattle.tables.specs.Fit.{ConditionFit, TablesFit}
+use Rattle.tables.specs.Fit.{TablesFit}
 use Rattle.tables.specs.Tables.{tables_ok}
-use Rattle.simulation.specs.Steps.{no_tanks, times_of, triggers_of, trigger_of}
+use Rattle.simulation.specs.Steps.{no_tanks, times_of, triggers_of}
 use Rattle.simulation.proofs.Accepted.{accepted_times}
 use Rattle.stops.specs.Stops.{stops_above}
 use Rattle.stops.specs.Tankless.{Frequent}
 use Rattle.awaited.specs.Awaited.{triggers_in}
-use Rattle.stops_ahead.specs.Ahead.{first_in, Waits, Timely}
-use Rattle.stops_ahead.specs.Foreseen.{frequent, stops_foreseen, stops_of, first_of, next_stop, next_stops, stops_given, fronted, stops_written, stop_number, stop_counts, stop_instants, stops_number, stops_counts, number_of_stops, counts_of_stops}
-use Rattle.stops_ahead.specs.declared.next.StopAnswer.{StopAnswer}
-use Rattle.stops_ahead.specs.declared.next.StopAnswer.TheVariants as one
-use Rattle.stops_ahead.specs.declared.next.StopsAnswer.{StopsAnswer}
-use Rattle.stops_ahead.specs.declared.next.StopsAnswer.TheVariants as some
+use Rattle.stops_ahead.specs.Ahead.{first_in, Timely}
+use Rattle.stops_ahead.specs.Foreseen.{StopAnswer, StopsAnswer, frequent, stops_foreseen, stops_of, first_of, next_stop, next_stops, stops_given, fronted, stops_written, stop_number, stop_counts, stop_instants, stops_number, stops_counts, number_of_stops, counts_of_stops}
+use Rattle.stops_ahead.specs.declared.next.NoStops.TheVariants.{Unforeseen, Refused}
 
 -- ---- the tests
 one_of : (a b c : ℕ) → (leb a c || leb b c) ≡ true → (a ≤ c) ⊎ (b ≤ c)
@@ -58,14 +52,6 @@ module _ (p : Project) (e : stops_foreseen p ≡ true) where
       }
 
 -- ---- the controls
-waits : (nodes : ℕ) (c : ControlCondition) → ConditionFit nodes c → Waits (trigger_of c)
-waits nodes (HighPressure n x) f = tt
-waits nodes (LowPressure n x) f = tt
-waits nodes (HighLevel n x) f = tt
-waits nodes (LowLevel n x) f = tt
-waits nodes (Time seconds) f = omega arith
-waits nodes (ClockTime seconds) f = omega arith
-
 pub timely : (p : Project) → TablesFit p → stops_foreseen p ≡ true → (o : Times) → o ≡ times_of p → Timely o p.controls p.counts.controls
 unfolding times_of triggers_of
 timely p t e o same = subst (λ (x : Times). Timely x p.controls p.counts.controls) (sym same) (record {
@@ -73,7 +59,6 @@ timely p t e o same = subst (λ (x : Times). Timely x p.controls p.counts.contro
   duration = t.options.duration;
   accepted = accepted_times p t;
   frequent = foreseen_frequent p e;
-  waits = λ i l. waits _ (control_at p i).condition (t.control i l).condition;
 })
 
 -- ---- a list of one
@@ -82,8 +67,8 @@ unfolding next_stop next_stops stops_given stops_written
 first_written p instant = go (tables_ok p) (stops_foreseen p) (stops_of p instant)
   where
     go : (a b : Bool) (us : List ℕ)
-        → first_in (cond a (cond b (some.Stops (length (take 1 us))) some.Unforeseen) (some.Refused 10)) (get_or (fronted (cond (a && b) (take 1 us) []) (0 ∷ [])) 0 0)
-        ≡ cond a (cond b (first_of us) one.Unforeseen) (one.Refused 10)
+        → first_in (cond a (cond b (Ok (length (take 1 us))) (Err Unforeseen)) (Err (Refused 10))) (get_or (fronted (cond (a && b) (take 1 us) []) (0 ∷ [])) 0 0)
+        ≡ cond a (cond b (first_of us) (Err Unforeseen)) (Err (Refused 10))
     go true true [] = refl
     go true true (u ∷ us) = refl
     go true false us = refl
@@ -96,7 +81,7 @@ unfolding next_stop number_of_stops counts_of_stops stops_given
 stop_answers p instant e = rw e (go (tables_ok p) (stops_foreseen p) (stops_of p instant))
   where
     answer : Bool → Bool → List ℕ → StopAnswer
-    answer a b us = cond a (cond b (first_of us) one.Unforeseen) (one.Refused 10)
+    answer a b us = cond a (cond b (first_of us) (Err Unforeseen)) (Err (Refused 10))
 
     go : (a b : Bool) (us : List ℕ)
         → (stop_number (answer a b us) ≡ cond a 0 10)
@@ -113,7 +98,7 @@ unfolding next_stops number_of_stops counts_of_stops
 stops_answers p instant room e = rw e (go (tables_ok p) (stops_foreseen p))
   where
     answer : Bool → Bool → StopsAnswer
-    answer a b = cond a (cond b (some.Stops (length (take room (stops_of p instant)))) some.Unforeseen) (some.Refused 10)
+    answer a b = cond a (cond b (Ok (length (take room (stops_of p instant)))) (Err Unforeseen)) (Err (Refused 10))
 
     go : (a b : Bool) → (stops_number (answer a b) ≡ cond a 0 10) × (stops_counts (answer a b) ≡ cond (a && b) (length (take room (stops_of p instant)) ∷ []) [])
     go true true = (refl, refl)
@@ -130,17 +115,17 @@ module _ (p : Project) (instant : ℕ) (old : List ℕ) where
   written : {r : StopsAnswer} {out : List ℕ} → r ≡ next_stops p instant (length old) → out ≡ stops_written p instant old → Written r out
   written e q = (e, (stops_answers p instant (length old) e, q))
 
-  pub refused_written : tables_ok p ≡ false → Written (some.Refused 10) old
+  pub refused_written : tables_ok p ≡ false → Written (Err (Refused 10)) old
   unfolding next_stops stops_given stops_written
   refused_written e = written (rw e) (rw e)
 
-  pub unforeseen_written : tables_ok p ≡ true → stops_foreseen p ≡ false → Written some.Unforeseen old
+  pub unforeseen_written : tables_ok p ≡ true → stops_foreseen p ≡ false → Written (Err Unforeseen) old
   unfolding next_stops stops_given stops_written
   unforeseen_written e f = written (rw (e, f)) (rw (e, f))
 
   pub stops_written_lem : {o : Times} {n : ℕ} {out : List ℕ} → tables_ok p ≡ true → stops_foreseen p ≡ true → o ≡ times_of p
       → n ≡ length (take (length old) (stops_above o (triggers_in p.controls p.counts.controls) instant))
       → out ≡ fronted (take (length old) (stops_above o (triggers_in p.controls p.counts.controls) instant)) old
-      → Written (some.Stops n) out
+      → Written (Ok n) out
   unfolding next_stops stops_given stops_written stops_of triggers_of
   stops_written_lem e f same a b = written (rw (e, f, ← same, a)) (rw (e, f, ← same, b))

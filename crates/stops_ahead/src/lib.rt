@@ -4,4 +4,4 @@
 mod ahead;
 mod next;
 
-pub use next::{StopAnswer, StopsAnswer, next_stop, next_stops};
+pub use next::{NoStops, next_stop, next_stops};

@@ -11,21 +11,12 @@ use simulation::{no_tanks, times_of};
 use tables::tables_ok;
 
 // The seconds of a day.
+// kept: `clock` has it as the u64 of its candidates; a conversion at each use is no plainer.
 const DAY: u32 = 86400;
 
-// The next stop; none is left at the duration. Unforeseen: the works is not one whose stops are known beforehand. Refused: the number.
+// Why no stops are answered. Unforeseen: the works is not one whose stops are known beforehand. Refused: the number.
 #[derive(Clone, Copy)]
-pub enum StopAnswer {
-    Stop(u32),
-    NoMore,
-    Unforeseen,
-    Refused(u32),
-}
-
-// How many stops were written; the rest as above.
-#[derive(Clone, Copy)]
-pub enum StopsAnswer {
-    Stops(usize),
+pub enum NoStops {
     Unforeseen,
     Refused(u32),
 }
@@ -34,10 +25,8 @@ pub enum StopsAnswer {
 fn frequent(o: Times) -> bool
     ensures { result ≡ frequent o }
 {
-    let hydraulic = o.hydraulic;
-    let report = o.report;
-    let pattern = o.pattern;
-    ((report <= hydraulic) | (pattern <= hydraulic)) & ((report <= DAY) | (pattern <= DAY))
+    ((o.report <= o.hydraulic) | (o.pattern <= o.hydraulic))
+        & ((o.report <= DAY) | (o.pattern <= DAY))
 }
 
 // Whether the works is one whose stops are known beforehand.
@@ -51,39 +40,33 @@ fn stops_foreseen(p: Project) -> bool
 
 // Writes the stops after an instant to the start of a list, rising, as many as there are and it has room for. Entries behind them stay, and where
 // no number of stops is answered all do.
-pub fn next_stops(p: Project, instant: u32, out: &mut [u32]) -> StopsAnswer
+pub fn next_stops(p: Project, instant: u32, out: &mut [u32]) -> Result<usize, NoStops>
     ensures value { result ≡ next_stops p instant (length out.old) }
     ensures result_value { (stops_number result ≡ number_of_stops p) × (stops_counts result ≡ counts_of_stops p instant (length out.old)) }
     ensures out_after { out.new ≡ stops_written p instant out.old }
 {
     if !tables_ok(p) {
-        return StopsAnswer::Refused(10);
+        return Err(NoStops::Refused(10));
     }
     if !stops_foreseen(p) {
-        return StopsAnswer::Unforeseen;
+        return Err(NoStops::Unforeseen);
     }
-    let controls = p.controls;
-    StopsAnswer::Stops(fill(times_of(p), controls, p.counts.controls, instant, out))
+    Ok(fill(times_of(p), &p.controls, p.counts.controls, instant, out))
 }
 
 // The first of the stops, of an answer for a list of one.
-fn first_of(answer: StopsAnswer, instant: u32) -> StopAnswer
+fn first_of(answer: Result<usize, NoStops>, instant: u32) -> Result<Option<u32>, NoStops>
     ensures { result ≡ first_in answer instant }
 {
-    match answer {
-        StopsAnswer::Stops(n) => {
-            if n == 0 {
-                return StopAnswer::NoMore;
-            }
-            StopAnswer::Stop(instant)
-        }
-        StopsAnswer::Unforeseen => StopAnswer::Unforeseen,
-        StopsAnswer::Refused(number) => StopAnswer::Refused(number),
+    let n = answer?;
+    if n == 0 {
+        return Ok(None);
     }
+    Ok(Some(instant))
 }
 
-// The next stop after an instant.
-pub fn next_stop(p: Project, instant: u32) -> StopAnswer
+// The next stop after an instant; none is left at the duration.
+pub fn next_stop(p: Project, instant: u32) -> Result<Option<u32>, NoStops>
     ensures value { result ≡ next_stop p instant }
     ensures result_value { (stop_number result ≡ number_of_stops p) × (stop_counts result ≡ counts_of_stops p instant 1) × (stop_instants result ≡ stops_given p instant 1) }
 {

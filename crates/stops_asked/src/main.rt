@@ -6,31 +6,29 @@ use model::Project;
 use replay_input::{read_bytes, read_image};
 use std::io;
 use std::io::Read;
-use stops_ahead::{StopAnswer, StopsAnswer};
+use stops_ahead::NoStops;
 use words::word_at;
 
-fn print_next(rt: &impl Print, a: StopAnswer) -> io::Result<()> {
+fn print_next(rt: &impl Print, a: Result<Option<u32>, NoStops>) -> io::Result<()> {
     match a {
-        StopAnswer::Stop(instant) => rt.print(instant),
-        StopAnswer::NoMore => rt.print("no more"),
-        StopAnswer::Unforeseen => rt.print("none"),
-        StopAnswer::Refused(n) => rt.print(n),
+        Ok(Some(instant)) => rt.print(instant),
+        Ok(None) => rt.print("no more"),
+        Err(NoStops::Unforeseen) => rt.print("none"),
+        Err(NoStops::Refused(n)) => rt.print(n),
     }
 }
 
-fn print_written(rt: &impl Print, a: StopsAnswer) -> io::Result<()> {
+fn print_written(rt: &impl Print, a: Result<usize, NoStops>) -> io::Result<()> {
     match a {
-        StopsAnswer::Stops(n) => rt.print(n),
-        StopsAnswer::Unforeseen => rt.print("none"),
-        StopsAnswer::Refused(n) => rt.print(n),
+        Ok(n) => rt.print(n),
+        Err(NoStops::Unforeseen) => rt.print("none"),
+        Err(NoStops::Refused(n)) => rt.print(n),
     }
 }
 
-fn print_list(rt: &impl Print, list: [u32; 8]) -> io::Result<()> {
-    let mut i = 0;
-    while i < 8 {
-        print!(rt; " {}", list[i])?;
-        i += 1;
+fn print_list(rt: &impl Print, list: &[u32]) -> io::Result<()> {
+    for instant in list {
+        print!(rt; " {instant}")?;
     }
     Ok(())
 }
@@ -40,13 +38,12 @@ fn ask(rt: &impl Print, p: Project, instant: u32, room: usize) -> io::Result<()>
     let mut list = [7u32; 8];
     print_next(rt, stops_ahead::next_stop(p, instant))?;
     rt.print("; ")?;
-    if room <= 8 {
-        print_written(rt, stops_ahead::next_stops(p, instant, &mut list[..room]))?;
-    } else {
-        print_written(rt, stops_ahead::next_stops(p, instant, &mut list))?;
-    }
+    print_written(
+        rt,
+        stops_ahead::next_stops(p, instant, &mut list[..room.min(8)]),
+    )?;
     rt.print(":")?;
-    print_list(rt, list)?;
+    print_list(rt, &list)?;
     rt.print("\n")
 }
 
@@ -58,11 +55,9 @@ fn ask_all<R: Read>(
     n: u32,
     bytes: &mut [u8],
 ) -> io::Result<()> {
-    let mut i = 0;
-    while i < n {
+    for _ in 0..n {
         read_bytes(from, bytes, 0, 8)?;
         ask(rt, p, word_at(bytes, 0), word_at(bytes, 4) as usize)?;
-        i += 1;
     }
     Ok(())
 }
@@ -74,8 +69,7 @@ fn ask_image<R: Read>(
     table: &mut [u32],
 ) -> io::Result<()> {
     let n = read_image(from, bytes, table)?;
-    let read = image::decode(&table[..n]);
-    let project = read.project;
+    let project = image::decode(&table[..n]).project;
     read_bytes(from, bytes, 0, 4)?;
     ask_all(from, rt, project, word_at(bytes, 0), bytes)
 }

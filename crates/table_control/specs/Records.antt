@@ -1,13 +1,10 @@
 -- What a control of the tables (kind 7) has to satisfy: number 5, by the record alone, and number 6, by what is declared.
 -- What cannot be written in the tables is judged by the words of an image (image_control/specs).
+use Rattle.std.specs.Prelude.{Float, None, Option, Some}
 use Rattle.std.specs.Prelude.{ℕ, Bool, true, ◌&&◌, ltb}
 use Rattle.model.specs.declared.control.Control.{Control}
 use Rattle.model.specs.declared.control.ControlCondition.{ControlCondition}
 use Rattle.model.specs.declared.control.ControlCondition.TheVariants as conditions
-use Rattle.model.specs.declared.control.SettingAction.{SettingAction}
-use Rattle.model.specs.declared.control.SettingAction.TheVariants.{KeepSetting, SetSetting}
-use Rattle.model.specs.declared.control.StatusAction.{StatusAction}
-use Rattle.model.specs.declared.control.StatusAction.TheVariants.{KeepStatus, SetStatus}
 use Rattle.table_ranges.specs.Ranges.{time_ok, clock_ok, feet_ok, number_ok, status_ok}
 
 unfoldable pub condition_ok : ControlCondition → Bool
@@ -18,13 +15,13 @@ condition_ok (conditions.LowLevel n target) = feet_ok target
 condition_ok (conditions.Time seconds) = time_ok seconds
 condition_ok (conditions.ClockTime seconds) = clock_ok seconds
 
-unfoldable pub status_action_ok : StatusAction → Bool
-status_action_ok KeepStatus = true
-status_action_ok (SetStatus s) = status_ok s
+unfoldable pub status_action_ok : Option ℕ → Bool
+status_action_ok None = true
+status_action_ok (Some s) = status_ok s
 
-unfoldable pub setting_action_ok : SettingAction → Bool
-setting_action_ok KeepSetting = true
-setting_action_ok (SetSetting x) = number_ok x
+unfoldable pub setting_action_ok : Option Float → Bool
+setting_action_ok None = true
+setting_action_ok (Some x) = number_ok x
 
 unfoldable pub control_ok : Control → Bool
 control_ok c = condition_ok c.condition && status_action_ok c.status && setting_action_ok c.setting

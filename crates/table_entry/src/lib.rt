@@ -24,6 +24,7 @@ pub const MOST_PREMISES: usize = 128;
 // The most multipliers of a pattern.
 pub const MOST_MULTIPLIERS: usize = 168;
 
+#[tactic(auto, unfolding(crate::specs::Fits::counts_ok))]
 pub fn counts_ok(c: Counts) -> bool
     ensures { result ≡ counts_ok c }
 {
@@ -35,23 +36,21 @@ pub fn counts_ok(c: Counts) -> bool
 }
 
 // The first n multipliers of pattern k.
+#[tactic(auto, unfolding(crate::specs::Fits::multipliers_ok))]
 fn multipliers_ok(multipliers: &[f64; 5376], k: usize, n: usize) -> bool
     requires k_bound { k < 32 }
     requires n_bound { n ≤ 168 }
     ensures { result ≡ multipliers_ok multipliers.now k n }
 {
-    let mut i = 0;
-    while i < n {
-        let at = k * MOST_MULTIPLIERS + i;
-        let x = multipliers[at];
-        if !number_ok(x) {
+    for i in 0..n {
+        if !number_ok(multipliers[k * MOST_MULTIPLIERS + i]) {
             return false;
         }
-        i += 1;
     }
     true
 }
 
+#[tactic(auto, unfolding(crate::specs::Fits::pattern_ok))]
 pub fn pattern_ok(multipliers: &[f64; 5376], k: usize, n: usize) -> bool
     requires { k < 32 }
     ensures { result ≡ pattern_ok multipliers.now k n }
@@ -65,24 +64,28 @@ pub fn pattern_ok(multipliers: &[f64; 5376], k: usize, n: usize) -> bool
     multipliers_ok(multipliers, k, n)
 }
 
+#[tactic(auto, unfolding(crate::specs::Fits::node_fits))]
 pub fn node_fits(patterns: usize, n: Node) -> bool
     ensures { result ≡ node_fits patterns n }
 {
     node_ok(n) & node_indices_ok(patterns, n)
 }
 
+#[tactic(auto, unfolding(crate::specs::Fits::link_fits))]
 pub fn link_fits(nodes: usize, l: Link) -> bool
     ensures { result ≡ link_fits nodes l }
 {
     link_ok(l) & link_indices_ok(nodes, l)
 }
 
+#[tactic(auto, unfolding(crate::specs::Fits::control_fits))]
 pub fn control_fits(nodes: usize, links: usize, c: Control) -> bool
     ensures { result ≡ control_fits nodes links c }
 {
     control_ok(c) & control_indices_ok(nodes, links, c)
 }
 
+#[tactic(auto, unfolding(crate::specs::Fits::premise_fits))]
 pub fn premise_fits(nodes: usize, links: usize, q: Premise) -> bool
     ensures { result ≡ premise_fits nodes links q }
 {

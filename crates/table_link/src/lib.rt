@@ -6,6 +6,7 @@ ghost use Rattle.table_link.specs.Records.{link_type_ok, link_ok, link_indices_o
 use model::{Link, LinkType};
 use table_ranges::{diameter_ok, number_ok, status_ok};
 
+#[tactic(auto, unfolding(crate::specs::Records::link_type_ok))]
 fn link_type_ok(kind: LinkType) -> bool
     ensures { result ≡ link_type_ok kind }
 {
@@ -19,13 +20,14 @@ fn link_type_ok(kind: LinkType) -> bool
     }
 }
 
+#[tactic(auto, unfolding(crate::specs::Records::link_ok))]
 pub fn link_ok(l: Link) -> bool
     ensures { result ≡ link_ok l }
 {
-    let kind = l.kind;
-    (l.start != l.end) & status_ok(l.initial_status) & link_type_ok(kind)
+    (l.start != l.end) & status_ok(l.initial_status) & link_type_ok(l.kind)
 }
 
+#[tactic(auto, unfolding(crate::specs::Records::link_indices_ok))]
 pub fn link_indices_ok(nodes: usize, l: Link) -> bool
     ensures { result ≡ link_indices_ok nodes l }
 {

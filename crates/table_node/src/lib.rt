@@ -7,6 +7,7 @@ use model::{Demand, Demands, Node, NodeType};
 use table_ranges::{diameter_ok, feet_ok, number_ok, pattern_index_ok};
 use tank::Tank;
 
+#[tactic(auto, unfolding(crate::specs::Records::tank_ok))]
 fn tank_ok(t: Tank) -> bool
     ensures { result ≡ tank_ok t }
 {
@@ -18,12 +19,14 @@ fn tank_ok(t: Tank) -> bool
         & diameter_ok(t.diameter.0)
 }
 
+#[tactic(auto, unfolding(crate::specs::Records::demand_ok))]
 fn demand_ok(d: Demand) -> bool
     ensures { result ≡ demand_ok d }
 {
     number_ok(d.base)
 }
 
+#[tactic(auto, unfolding(crate::specs::Records::demands_ok))]
 fn demands_ok(demands: Demands) -> bool
     ensures { result ≡ demands_ok demands }
 {
@@ -36,27 +39,25 @@ fn demands_ok(demands: Demands) -> bool
     }
 }
 
+#[tactic(auto, unfolding(crate::specs::Records::node_ok))]
 pub fn node_ok(n: Node) -> bool
     ensures { result ≡ node_ok n.kind }
 {
-    let kind = n.kind;
-    match kind {
+    match n.kind {
         NodeType::Reservoir(r) => feet_ok(r.elevation),
         NodeType::Tank(t) => tank_ok(t),
-        NodeType::Junction(j) => {
-            let demands = j.demands;
-            feet_ok(j.elevation) & demands_ok(demands)
-        }
+        NodeType::Junction(j) => feet_ok(j.elevation) & demands_ok(j.demands),
     }
 }
 
+#[tactic(auto, unfolding(crate::specs::Records::demand_index_ok))]
 fn demand_index_ok(patterns: usize, d: Demand) -> bool
     ensures { result ≡ demand_index_ok patterns d }
 {
-    let pattern = d.pattern;
-    pattern_index_ok(patterns, pattern)
+    pattern_index_ok(patterns, d.pattern)
 }
 
+#[tactic(auto, unfolding(crate::specs::Records::demands_indices_ok))]
 fn demands_indices_ok(patterns: usize, demands: Demands) -> bool
     ensures { result ≡ demands_indices_ok patterns demands }
 {
@@ -78,19 +79,13 @@ fn demands_indices_ok(patterns: usize, demands: Demands) -> bool
     }
 }
 
+#[tactic(auto, unfolding(crate::specs::Records::node_indices_ok))]
 pub fn node_indices_ok(patterns: usize, n: Node) -> bool
     ensures { result ≡ node_indices_ok patterns n.kind }
 {
-    let kind = n.kind;
-    match kind {
-        NodeType::Reservoir(r) => {
-            let pattern = r.head_pattern;
-            pattern_index_ok(patterns, pattern)
-        }
+    match n.kind {
+        NodeType::Reservoir(r) => pattern_index_ok(patterns, r.head_pattern),
         NodeType::Tank(_) => true,
-        NodeType::Junction(j) => {
-            let demands = j.demands;
-            demands_indices_ok(patterns, demands)
-        }
+        NodeType::Junction(j) => demands_indices_ok(patterns, j.demands),
     }
 }

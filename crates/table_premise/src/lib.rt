@@ -6,6 +6,7 @@ ghost use Rattle.table_premise.specs.Records.{value_ok, premise_ok, premise_indi
 use model::{ConditionValue, Premise, RuleConditionTarget};
 use table_ranges::{premise_number_ok, status_ok, time_ok};
 
+#[tactic(auto, unfolding(crate::specs::Records::value_ok))]
 fn value_ok(value: ConditionValue) -> bool
     ensures { result ≡ value_ok value }
 {
@@ -16,20 +17,19 @@ fn value_ok(value: ConditionValue) -> bool
     }
 }
 
+#[tactic(auto, unfolding(crate::specs::Records::premise_ok))]
 pub fn premise_ok(q: Premise) -> bool
     ensures { result ≡ premise_ok q }
 {
-    let value = q.value;
-    value_ok(value)
+    value_ok(q.value)
 }
 
+#[tactic(auto, unfolding(crate::specs::Records::premise_indices_ok))]
 pub fn premise_indices_ok(nodes: usize, links: usize, q: Premise) -> bool
     ensures { result ≡ premise_indices_ok nodes links q.target }
 {
-    let target = q.target;
-    match target {
-        RuleConditionTarget::Node(i, _) => i < nodes,
-        RuleConditionTarget::Tank(i, _) => i < nodes,
+    match q.target {
+        RuleConditionTarget::Node(i, _) | RuleConditionTarget::Tank(i, _) => i < nodes,
         RuleConditionTarget::Link(i, _) => i < links,
         RuleConditionTarget::System(_) => true,
     }

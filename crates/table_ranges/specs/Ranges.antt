@@ -1,9 +1,8 @@
 -- Document 01, "Ranges". A number that is not finite is in none of them.
+use Rattle.std.specs.Prelude.{None, Option, Some}
 use Rattle.std.specs.Prelude.{ℕ, Bool, true, ◌&&◌, leb, ltb, Float}
 use Rattle.number.specs.Constants.{decimal}
 use Rattle.number.specs.Order.{in_range, within}
-use Rattle.model.specs.declared.pattern.PatternIndex.{PatternIndex}
-use Rattle.model.specs.declared.pattern.PatternIndex.TheVariants.{NoPattern, PatternAt}
 
 -- "Times 0 to 315,360,000"
 unfoldable pub time_ok : ℕ → Bool
@@ -38,6 +37,6 @@ unfoldable pub status_ok : ℕ → Bool
 status_ok status = leb status 9
 
 -- "index to nothing declared": a pattern, where one is named
-unfoldable pub pattern_index_ok : ℕ → PatternIndex → Bool
-pattern_index_ok patterns NoPattern = true
-pattern_index_ok patterns (PatternAt i) = ltb i patterns
+unfoldable pub pattern_index_ok : ℕ → Option ℕ → Bool
+pattern_index_ok patterns None = true
+pattern_index_ok patterns (Some i) = ltb i patterns

@@ -5,6 +5,7 @@ ghost use Rattle.table_ranges.specs.Records.{options_ok};
 use crate::ranges::{clock_ok, number_ok, time_ok, timestep_ok};
 use model::Options;
 
+#[tactic(auto, unfolding(crate::specs::Records::options_ok))]
 pub fn options_ok(o: Options) -> bool
     ensures { result ≡ options_ok o }
 {

@@ -2,8 +2,6 @@
 ghost use Rattle.std.specs.Prelude.{◌≡◌};
 ghost use Rattle.table_ranges.specs.Ranges.{time_ok, timestep_ok, clock_ok, feet_ok, diameter_ok, number_ok, premise_number_ok, status_ok, pattern_index_ok};
 
-use model::PatternIndex;
-
 // Ten years of seconds.
 pub const LONGEST: u32 = 315360000;
 
@@ -13,18 +11,21 @@ pub const LAST_SECOND: u32 = 86399;
 // The last code of `LinkStatus`.
 pub const LAST_STATUS: u32 = 9;
 
+#[tactic(auto, unfolding(crate::specs::Ranges::time_ok))]
 pub fn time_ok(seconds: u32) -> bool
     ensures { result ≡ time_ok seconds }
 {
     seconds <= LONGEST
 }
 
+#[tactic(auto, unfolding(crate::specs::Ranges::timestep_ok))]
 pub fn timestep_ok(seconds: u32) -> bool
     ensures { result ≡ timestep_ok seconds }
 {
     (1 <= seconds) & time_ok(seconds)
 }
 
+#[tactic(auto, unfolding(crate::specs::Ranges::clock_ok))]
 pub fn clock_ok(seconds: u32) -> bool
     ensures { result ≡ clock_ok seconds }
 {
@@ -55,6 +56,7 @@ pub fn premise_number_ok(x: f64) -> bool
     number::within(1000000000000.0, x)
 }
 
+#[tactic(auto, unfolding(crate::specs::Ranges::status_ok))]
 pub fn status_ok(status: u32) -> bool
     ensures { result ≡ status_ok status }
 {
@@ -62,11 +64,9 @@ pub fn status_ok(status: u32) -> bool
 }
 
 // Whether a pattern, where one is named, is one of the patterns declared.
-pub fn pattern_index_ok(patterns: usize, pattern: PatternIndex) -> bool
+#[tactic(auto, unfolding(crate::specs::Ranges::pattern_index_ok))]
+pub fn pattern_index_ok(patterns: usize, pattern: Option<usize>) -> bool
     ensures { result ≡ pattern_index_ok patterns pattern }
 {
-    match pattern {
-        PatternIndex::NoPattern => true,
-        PatternIndex::PatternAt(i) => i < patterns,
-    }
+    pattern.is_none_or(|i| i < patterns)
 }

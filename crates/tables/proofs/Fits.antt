@@ -1,4 +1,5 @@
 -- Where a test passes, what it tests is so: record by record, and then of the whole tables. Assumes nothing.
+use Rattle.std.specs.Prelude.{None, Option, Some}
 use mathlib.Core.Path.{◌≡◌}
 use mathlib.Core.Bool.{Bool, true, false, not}
 use mathlib.Core.List.{List, [], ◌∷◌}
@@ -20,10 +21,6 @@ use Rattle.model.specs.Blank.{node_at, link_at, control_at, premise_at}
 use Rattle.model.specs.declared.control.Control.{Control}
 use Rattle.model.specs.declared.control.ControlCondition.{ControlCondition}
 use Rattle.model.specs.declared.control.ControlCondition.TheVariants as conditions
-use Rattle.model.specs.declared.control.SettingAction.{SettingAction}
-use Rattle.model.specs.declared.control.SettingAction.TheVariants.{KeepSetting, SetSetting}
-use Rattle.model.specs.declared.control.StatusAction.{StatusAction}
-use Rattle.model.specs.declared.control.StatusAction.TheVariants.{KeepStatus, SetStatus}
 use Rattle.model.specs.declared.link.Link.{Link}
 use Rattle.model.specs.declared.link.LinkType.{LinkType}
 use Rattle.model.specs.declared.link.LinkType.TheVariants.{Pipe, Pump, Valve}
@@ -34,8 +31,6 @@ use Rattle.model.specs.declared.node.Node.{Node}
 use Rattle.model.specs.declared.node.NodeType.{NodeType}
 use Rattle.model.specs.declared.node.NodeType.TheVariants.{Reservoir, Tank, Junction}
 use Rattle.model.specs.declared.options.Options.{Options}
-use Rattle.model.specs.declared.pattern.PatternIndex.{PatternIndex}
-use Rattle.model.specs.declared.pattern.PatternIndex.TheVariants.{NoPattern, PatternAt}
 use Rattle.model.specs.declared.project.Counts.{Counts}
 use Rattle.model.specs.declared.project.Project.{Project}
 use Rattle.model.specs.declared.rule.ConditionValue.{ConditionValue}
@@ -130,10 +125,10 @@ pub timestep_fit : (s : ℕ) → timestep_ok s ≡ true → (0 < s) × (s ≤ 31
 unfolding timestep_ok time_ok
 timestep_fit s e = let h = each (leb 1 s) (_ ∷ []) e in (leb-true _ _ (h 0), leb-true _ _ (h 1))
 
-pub pattern_index_fit : (patterns : ℕ) (i : PatternIndex) → pattern_index_ok patterns i ≡ true → PatternIndexFit patterns i
+pub pattern_index_fit : (patterns : ℕ) (i : Option ℕ) → pattern_index_ok patterns i ≡ true → PatternIndexFit patterns i
 unfolding pattern_index_ok
-pattern_index_fit patterns NoPattern e = tt
-pattern_index_fit patterns (PatternAt i) e = ltb-true i patterns e
+pattern_index_fit patterns None e = tt
+pattern_index_fit patterns (Some i) e = ltb-true i patterns e
 
 -- ---- the records
 pub options_fit : (o : Options) → options_ok o ≡ true → OptionsFit o
@@ -248,15 +243,15 @@ condition_fit nodes (conditions.LowLevel n target) e f = (ltb-true n nodes f, fe
 condition_fit nodes (conditions.Time seconds) e f = leb-true _ _ e
 condition_fit nodes (conditions.ClockTime seconds) e f = clock_fit seconds e
 
-status_action_fit : (s : StatusAction) → status_action_ok s ≡ true → StatusActionFit s
+status_action_fit : (s : Option ℕ) → status_action_ok s ≡ true → StatusActionFit s
 unfolding status_action_ok status_ok
-status_action_fit KeepStatus e = tt
-status_action_fit (SetStatus s) e = leb-true _ _ e
+status_action_fit None e = tt
+status_action_fit (Some s) e = leb-true _ _ e
 
-setting_action_fit : (s : SettingAction) → setting_action_ok s ≡ true → SettingActionFit s
+setting_action_fit : (s : Option Float) → setting_action_ok s ≡ true → SettingActionFit s
 unfolding setting_action_ok
-setting_action_fit KeepSetting e = tt
-setting_action_fit (SetSetting x) e = number_fit x e
+setting_action_fit None e = tt
+setting_action_fit (Some x) e = number_fit x e
 
 pub control_fit : (nodes links : ℕ) (c : Control) → control_fits nodes links c ≡ true → ControlFit nodes links c
 unfolding control_fits control_ok control_indices_ok

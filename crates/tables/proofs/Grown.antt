@@ -1,4 +1,5 @@
 -- What keeps holding as the tables are filled: an index test where a count grows, and a test over a table where an entry is added. Assumes nothing.
+use Rattle.std.specs.Prelude.{None, Option, Some}
 use mathlib.Core.Path.{◌≡◌, refl}
 use mathlib.Core.Bool.{Bool, true, ◌&&◌}
 use mathlib.Core.List.{List}
@@ -20,8 +21,6 @@ use Rattle.model.specs.declared.node.Demands.{Demands}
 use Rattle.model.specs.declared.node.Demands.TheVariants.{NoDemand, One, Two, Three, Four}
 use Rattle.model.specs.declared.node.NodeType.{NodeType}
 use Rattle.model.specs.declared.node.NodeType.TheVariants.{Reservoir, Tank, Junction}
-use Rattle.model.specs.declared.pattern.PatternIndex.{PatternIndex}
-use Rattle.model.specs.declared.pattern.PatternIndex.TheVariants.{NoPattern, PatternAt}
 use Rattle.model.specs.declared.rule.RuleConditionTarget.{RuleConditionTarget}
 use Rattle.model.specs.declared.rule.RuleConditionTarget.TheVariants as targets
 use Rattle.table_ranges.specs.Ranges.{pattern_index_ok}
@@ -36,10 +35,10 @@ use Rattle.table_entry.proofs.Tests.{and_grow}
 pub below_grows : (i : ℕ) {m n : ℕ} → m ≤ n → ltb i m ≡ true → ltb i n ≡ true
 below_grows i {m} {n} h e = lt-ltb i n (omega (arith, ltb-true i m e))
 
-pub pattern_index_grows : (i : PatternIndex) {m n : ℕ} → m ≤ n → pattern_index_ok m i ≡ true → pattern_index_ok n i ≡ true
+pub pattern_index_grows : (i : Option ℕ) {m n : ℕ} → m ≤ n → pattern_index_ok m i ≡ true → pattern_index_ok n i ≡ true
 unfolding pattern_index_ok
-pattern_index_grows NoPattern h e = refl
-pattern_index_grows (PatternAt i) h e = below_grows i h e
+pattern_index_grows None h e = refl
+pattern_index_grows (Some i) h e = below_grows i h e
 
 demand_index_grows : (d : Demand) {m n : ℕ} → m ≤ n → demand_index_ok m d ≡ true → demand_index_ok n d ≡ true
 unfolding demand_index_ok

@@ -1,5 +1,6 @@
 -- Needs no belief: what acceptance means, as facts for the layers above, shown of the tests once (proofs/Fits.antt): indices below the counts, times in
 -- their ranges, numbers as bounds.
+use Rattle.std.specs.Prelude.{None, Option, Some}
 use Rattle.std.specs.Prelude.{ℕ, ◌*◌, ◌+◌, ◌^◌, ◌≤◌, ◌<◌, ◌≡◌, List, Float, get_or}
 use Rattle.std.specs.Float.{nan}
 use Rattle.number.specs.Bounds.{Within, Beyond}
@@ -8,10 +9,6 @@ use Rattle.model.specs.Blank.{node_at, link_at, control_at, premise_at}
 use Rattle.model.specs.declared.control.Control.{Control}
 use Rattle.model.specs.declared.control.ControlCondition.{ControlCondition}
 use Rattle.model.specs.declared.control.ControlCondition.TheVariants as conditions
-use Rattle.model.specs.declared.control.SettingAction.{SettingAction}
-use Rattle.model.specs.declared.control.SettingAction.TheVariants.{KeepSetting, SetSetting}
-use Rattle.model.specs.declared.control.StatusAction.{StatusAction}
-use Rattle.model.specs.declared.control.StatusAction.TheVariants.{KeepStatus, SetStatus}
 use Rattle.model.specs.declared.link.Link.{Link}
 use Rattle.model.specs.declared.link.LinkType.{LinkType}
 use Rattle.model.specs.declared.link.LinkType.TheVariants.{Pipe, Pump, Valve}
@@ -21,8 +18,6 @@ use Rattle.model.specs.declared.node.Demands.TheVariants.{NoDemand, One, Two, Th
 use Rattle.model.specs.declared.node.NodeType.{NodeType}
 use Rattle.model.specs.declared.node.NodeType.TheVariants.{Reservoir, Tank, Junction}
 use Rattle.model.specs.declared.options.Options.{Options}
-use Rattle.model.specs.declared.pattern.PatternIndex.{PatternIndex}
-use Rattle.model.specs.declared.pattern.PatternIndex.TheVariants.{NoPattern, PatternAt}
 use Rattle.model.specs.declared.project.Project.{Project}
 use Rattle.model.specs.declared.rule.ConditionValue.{ConditionValue}
 use Rattle.model.specs.declared.rule.ConditionValue.TheVariants as values
@@ -42,9 +37,9 @@ pub record OptionsFit (o : Options) : Type 0 where
   pub clock : o.start_clock < 86400
   pub scale : Within o.demand_multiplier (10 ^ 6)
 
-abbrev pub PatternIndexFit : ℕ → PatternIndex → Type 0
-PatternIndexFit patterns NoPattern = Unit {0}
-PatternIndexFit patterns (PatternAt i) = i < patterns
+abbrev pub PatternIndexFit : ℕ → Option ℕ → Type 0
+PatternIndexFit patterns None = Unit {0}
+PatternIndexFit patterns (Some i) = i < patterns
 
 pub record PatternFit (ms : List Float) (k n : ℕ) : Type 0 where
   pub some : 0 < n
@@ -87,13 +82,13 @@ ConditionFit nodes (conditions.LowLevel n target) = (n < nodes) × Within target
 ConditionFit nodes (conditions.Time seconds) = seconds ≤ 315360000
 ConditionFit nodes (conditions.ClockTime seconds) = seconds < 86400
 
-abbrev pub StatusActionFit : StatusAction → Type 0
-StatusActionFit KeepStatus = Unit {0}
-StatusActionFit (SetStatus s) = s ≤ 9
+abbrev pub StatusActionFit : Option ℕ → Type 0
+StatusActionFit None = Unit {0}
+StatusActionFit (Some s) = s ≤ 9
 
-abbrev pub SettingActionFit : SettingAction → Type 0
-SettingActionFit KeepSetting = Unit {0}
-SettingActionFit (SetSetting x) = Within x (10 ^ 6)
+abbrev pub SettingActionFit : Option Float → Type 0
+SettingActionFit None = Unit {0}
+SettingActionFit (Some x) = Within x (10 ^ 6)
 
 pub record ControlFit (nodes links : ℕ) (c : Control) : Type 0 where
   pub condition : ConditionFit nodes c.condition

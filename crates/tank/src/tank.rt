@@ -20,15 +20,12 @@ pub struct Tank {
 pub fn gap_time(gap: CubicFeet, flow: CubicFeetPerSecond) -> u64
     ensures { result ≡ gap_time gap flow }
 {
-    let volume = gap.0;
-    let rate = flow.0;
+    let CubicFeet(volume) = gap;
+    let CubicFeetPerSecond(rate) = flow;
     if number::abs(volume) < 0.5 {
         return 0;
     }
-    if volume > 0.0 && rate > 0.0 {
-        return number::round_to_u64(volume / rate);
-    }
-    if volume < 0.0 && rate < 0.0 {
+    if (volume > 0.0) & (rate > 0.0) | (volume < 0.0) & (rate < 0.0) {
         return number::round_to_u64(volume / rate);
     }
     MAX
@@ -38,8 +35,8 @@ impl Tank {
     fn volume_at_level(self, level: Feet) -> CubicFeet
         ensures { result ≡ volume_at_level self level }
     {
-        let height = level.0;
-        let diameter = self.diameter.0;
+        let Feet(height) = level;
+        let Feet(diameter) = self.diameter;
         if height < 0.0 {
             return CubicFeet(0.0);
         }
@@ -47,16 +44,11 @@ impl Tank {
     }
 
     // The seconds until the level is at a target: 0 where it is there already, MAX where it never will be.
+    #[tactic(auto, unfolding(crate::specs::Tanks::time_to_reach_level))]
     pub fn time_to_reach_level(self, current: Feet, target: Feet, flow: CubicFeetPerSecond) -> u64
         ensures { result ≡ time_to_reach_level self current target flow }
     {
-        let level = target.0;
-        let greatest = self.max_level.0;
-        let least = self.min_level.0;
-        if level > greatest {
-            return MAX;
-        }
-        if level < least {
+        if target.0 > self.max_level.0 || target.0 < self.min_level.0 {
             return MAX;
         }
         let want = self.volume_at_level(target);
@@ -64,34 +56,31 @@ impl Tank {
         gap_time(CubicFeet(want.0 - have.0), flow)
     }
 
+    #[tactic(auto, unfolding(crate::specs::Tanks::time_to_fill_or_drain, number::specs::Constants::decimal))]
     pub fn time_to_fill_or_drain(self, current: Feet, flow: CubicFeetPerSecond) -> u64
         ensures { result ≡ time_to_fill_or_drain self current flow }
     {
-        let rate = flow.0;
-        if rate == 0.0 {
+        if flow.0 == 0.0 {
             return MAX;
         }
-        let greatest = self.max_level;
-        let least = self.min_level;
-        let full = self.time_to_reach_level(current, greatest, flow);
-        let empty = self.time_to_reach_level(current, least, flow);
-        if full < empty { full } else { empty }
+        let full = self.time_to_reach_level(current, self.max_level, flow);
+        let empty = self.time_to_reach_level(current, self.min_level, flow);
+        full.min(empty)
     }
 
     // The head after a change of volume.
     fn new_head(self, change: CubicFeet, head: Feet) -> Feet
         ensures { result ≡ new_head self change head }
     {
-        let elevation = self.elevation.0;
-        let diameter = self.diameter.0;
-        let greatest = self.max_level.0;
-        let least = self.min_level.0;
+        let Feet(elevation) = self.elevation;
+        let Feet(diameter) = self.diameter;
         let area = PI * diameter * diameter / 4.0;
         let level = head.0 - elevation + change.0 / area;
-        Feet(elevation + number::clamp(level, least, greatest))
+        Feet(elevation + number::clamp(level, self.min_level.0, self.max_level.0))
     }
 
     // The head after a demand over some seconds, as `update_tanks` has it.
+    #[tactic(auto, unfolding(crate::specs::Tanks::head_after))]
     pub fn head_after(self, demand: CubicFeetPerSecond, seconds: u64, head: Feet) -> Feet
         ensures { result ≡ head_after self demand seconds head }
     {

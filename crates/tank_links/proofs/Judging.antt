@@ -1,15 +1,18 @@
 -- A table that is the one laid out: what it has, and that what the code lays out is it. Assumes nothing.
-use Prim.Native.Nat.{ℕ, zero, suc, ◌+◌, ◌-◌, ◌≤◌, ◌<◌}
-use mathlib.Core.Path.{◌≡◌, refl, ap, ◌∙◌}
-use mathlib.Core.Bool.{Bool, true, false, ◌&&◌}
+use Prim.Native.Nat.{ℕ, suc, ◌+◌, ◌-◌, ◌≤◌, ◌<◌}
+use mathlib.Core.Path.{◌≡◌, refl, sym, ap, ◌∙◌}
+use mathlib.Core.Bool.{true, ◌&&◌}
 use mathlib.Core.List.{List}
 use native.Mathlib.Numerals.{add-one}
 use native.Mathlib.Omega.{arith}
 use borrow.Author.Tests.{eqb-true, eq-eqb, le-leb, leb-true}
 use lib.Dec.{eqb, leb}
-use lib.ListN.{length, get_or, replicate, length-append, length-replicate, get_or-append}
-use lib.Seq.{sets, length-sets, get_or-append-add}
-use Rattle.model.specs.Loops.{all_below}
+use lib.ListN.{length, get_or, take, replicate, length-append, length-replicate, length-take, get_or-append}
+use lib.Seq.{sets, sets-eq, length-sets, get_or-append-add, ext_get_or, get_or-take, length-take-le, take-append_seam}
+use Rattle.std.specs.Bool.{one_answer}
+use Rattle.std.specs.Cmp.Lexicographic.{pointwise_decides}
+use Rattle.std.specs.List.{starts_with}
+use Rattle.std.proofs.lemmas.Bool.Decides.{Decides-eqb}
 use Rattle.model.specs.declared.project.Project.{Project}
 use Rattle.model.proofs.Loops.{both_left, both_right, held_at, all_below_lem}
 use Rattle.tables.specs.Fit.{TablesFit}
@@ -41,17 +44,29 @@ with_put array xs room =
 zeros : (n : ℕ) {array : List ℕ} → array ≡ replicate n 0 → length array ≡ n
 zeros n e = ap length e ∙ length-replicate {A = ℕ} n 0
 
--- the test as the code makes it: against an array that has the list
-all_same : (n : ℕ) (t u : ℕ → Bool) → ((i : ℕ) → i < n → t i ≡ u i) → all_below n t ≡ all_below n u
-unfolding all_below
-all_same zero t u h = refl
-all_same (suc n) t u h = rw (all_same n t u (λ i l. h i (omega arith)), h n (omega arith))
-
-with_own : (array own xs : List ℕ) (n : ℕ) → n ≡ length xs → ((i : ℕ) → i < length xs → get_or own i 0 ≡ get_or xs i 0)
-    → (leb n (length array) && all_below n (λ i. eqb (get_or array i 0) (get_or own i 0))) ≡ begins_with array xs
+-- the test as the code makes it: against the front of an array that the list was put into
+starts_begins : (array xs : List ℕ) → starts_with eqb array xs ≡ begins_with array xs
 unfolding begins_with
-with_own array own xs n e h =
-    rw e (ap (λ (b : Bool). leb (length xs) (length array) && b) (all_same (length xs) _ _ (λ i l. ap (eqb (get_or array i 0)) (h i l))))
+starts_begins array xs = one_answer _ _ (pointwise_decides Decides-eqb xs (take (length xs) array)) (to, from)
+  where
+    to : begins_with array xs ≡ true → xs ≡ take (length xs) array
+    to e =
+        ext_get_or 0 xs (take (length xs) array) (sym (length-take-le (length xs) array (with_long array xs e)))
+        (λ i h. sym (get_or-take (length xs) array i 0 h ∙ with_at array xs e i h))
+
+    from : xs ≡ take (length xs) array → begins_with array xs ≡ true
+    from e =
+        let room : length xs ≤ length array = omega (arith, ap length e, length-take (length xs) array) in
+        rw (le-leb (length xs) (length array) room)
+        (all_below_lem (length xs) _ (λ i h. eq-eqb _ _ (sym (ap (λ (ys : List ℕ). get_or ys i 0) e ∙ get_or-take (length xs) array i 0 h))))
+
+starts_own : (array l xs : List ℕ) {own : List ℕ} {n : ℕ} → own ≡ sets l 0 xs → n ≡ length xs → length xs ≤ length l → starts_with eqb array (take n own) ≡ begins_with array xs
+starts_own array l xs {own} {n} e q room =
+    rw (
+      e,
+      q,
+      ap (take (length xs)) (sets-eq xs l 0 (omega (arith, room))) ∙ take-append_seam xs _,
+    ) (starts_begins array xs)
 
 module _ (p : Project) where
   abbrev T : ℕ
@@ -182,57 +197,33 @@ module _ (p : Project) where
     unfolding entries_of
     entries_are = group_same (into_in p.links L nodes) (out_of_in p.links L nodes) into out n same_into same_out n (omega arith) ∙ ap (joined (λ m. group p (tank_node p m))) h.many
 
-  -- ---- a table laid out to compare with, and the three tests
+  -- ---- a table laid out to compare with, and what the three tests tell
   pub record Own (begins middles links : List ℕ) (n : ℕ) : Type 0 where
-    pub tanks : n ≡ T
-    pub few : n ≤ 256
-    pub wide : length begins ≡ 257
-    pub long : length middles ≡ 256
-    pub room : length links ≡ 768
-    pub ends : get_or begins n 0 ≡ length (entries_of p)
-    pub fits : length (entries_of p) ≤ 768
-    pub first : (array : List ℕ) → (leb (n + 1) (length array) && all_below (n + 1) (λ i. eqb (get_or array i 0) (get_or begins i 0))) ≡ begins_with array (begins_of p)
-    pub second : (array : List ℕ) → (leb n (length array) && all_below n (λ i. eqb (get_or array i 0) (get_or middles i 0))) ≡ begins_with array (middles_of p)
-    pub entry : (array : List ℕ) → (leb (get_or begins n 0) (length array) && all_below (get_or begins n 0) (λ i. eqb (get_or array i 0) (get_or links i 0))) ≡ begins_with array (entries_of p)
+    pub fits : get_or begins n 0 ≤ 768
+    pub tells : (b m l : List ℕ)
+        → ((starts_with eqb b (take (n + 1) begins) && starts_with eqb m (take n middles)) && starts_with eqb l (take (get_or begins n 0) links)) ≡ is_laid_out p b m l
 
-  pub own : (fit : TablesFit p) (b m l : List ℕ) {begins middles links : List ℕ} {n : ℕ} → length b ≡ 257 → length m ≡ 256 → length l ≡ 768
+  pub own : TablesFit p → {b m l begins middles links : List ℕ} {n : ℕ} → b ≡ replicate 257 0 → m ≡ replicate 256 0 → l ≡ replicate 768 0
       → n ≡ T → begins ≡ sets b 0 (begins_of p) → middles ≡ sets m 0 (middles_of p) → links ≡ sets l 0 (entries_of p) → Own begins middles links n
-  unfolding begins_of middles_of entries_of
-  own fit b m l {begins} {middles} {links} {n} wb wm wl t x y z = record {
-    tanks = t;
-    few = omega (arith, t, tanks_fit fit);
-    wide = ap length x ∙ length-sets b 0 (begins_of p) ∙ wb;
-    long = ap length y ∙ length-sets m 0 (middles_of p) ∙ wm;
-    room = ap length z ∙ length-sets l 0 (entries_of p) ∙ wl;
-    ends = last;
-    fits = groups_fit fit T (omega arith);
-    first = λ array. with_own array begins (begins_of p) (n + 1) (omega (arith, t, length_listed (begin p) (suc T)))
-        (λ i h. ap (λ (xs : List ℕ). get_or xs i 0) x ∙ sets_at b (begins_of p) i (omega (arith, wb, long_begins)) h);
-    second = λ array. with_own array middles (middles_of p) n (omega (arith, t, length_listed (middle p) T))
-        (λ i h. ap (λ (xs : List ℕ). get_or xs i 0) y ∙ sets_at m (middles_of p) i (omega (arith, wm, length_listed (middle p) T, tanks_fit fit)) h);
-    entry = λ array. with_own array links (entries_of p) (get_or begins n 0) last
-        (λ i h. ap (λ (xs : List ℕ). get_or xs i 0) z ∙ sets_at l (entries_of p) i (omega (arith, wl, groups_fit fit T (omega arith))) h);
+  unfolding begins_of middles_of entries_of is_laid_out
+  own fit {b} {m} {l} {begins} {middles} {links} {n} wb wm wl t x y z = record {
+    fits = omega (arith, last, groups_fit fit T (omega arith));
+    tells = λ b' m' l'. rw (
+      starts_own b' b (begins_of p) {n = n + 1} x (omega (arith, t, long_begins)) (omega (arith, long_begins, zeros 257 wb, tanks_fit fit)),
+      starts_own m' m (middles_of p) {n = n} y (omega (arith, t, long_middles)) (omega (arith, long_middles, zeros 256 wm, tanks_fit fit)),
+      starts_own l' l (entries_of p) z last (omega (arith, zeros 768 wl, groups_fit fit T (omega arith))),
+    ) refl;
   }
     where
-      long_begins : length (begins_of p) ≤ 257
-      long_begins = omega (arith, length_listed (begin p) (suc T), tanks_fit fit)
+      long_begins : length (begins_of p) ≡ suc T
+      long_begins = length_listed (begin p) (suc T)
+
+      long_middles : length (middles_of p) ≡ T
+      long_middles = length_listed (middle p) T
 
       last : get_or begins n 0 ≡ begin p T
       last =
           ap (λ (xs : List ℕ). get_or xs n 0) x
-          ∙ sets_at b (begins_of p) n (omega (arith, wb, long_begins)) (omega (arith, t, length_listed (begin p) (suc T)))
+          ∙ sets_at b (begins_of p) n (omega (arith, long_begins, zeros 257 wb, tanks_fit fit)) (omega (arith, t, long_begins))
           ∙ listed_at (begin p) (suc T) n (omega (arith, t))
           ∙ ap (begin p) t
-
--- which of the three fails
-pub first_fails : (p : Project) (begins middles links : List ℕ) → begins_with begins (begins_of p) ≡ false → false ≡ is_laid_out p begins middles links
-unfolding is_laid_out
-first_fails p begins middles links e = rw e
-
-pub second_fails : (p : Project) (begins middles links : List ℕ) → begins_with begins (begins_of p) ≡ true → begins_with middles (middles_of p) ≡ false → false ≡ is_laid_out p begins middles links
-unfolding is_laid_out
-second_fails p begins middles links e f = rw (e, f)
-
-pub third_tells : (p : Project) (begins middles links : List ℕ) → begins_with begins (begins_of p) ≡ true → begins_with middles (middles_of p) ≡ true → begins_with links (entries_of p) ≡ is_laid_out p begins middles links
-unfolding is_laid_out
-third_tells p begins middles links e f = rw (e, f)

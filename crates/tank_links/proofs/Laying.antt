@@ -12,7 +12,7 @@ use Rattle.model.specs.declared.link.Link.{Link}
 use Rattle.run_tables.specs.Held.{TanksInside, Distinct}
 use Rattle.tank_links.specs.Groups.{joined, listed}
 use Rattle.tank_links.specs.Chains.{linked, Chains}
-use Rattle.tank_links.specs.Laid.{end_in, start_in, into_in, out_of_in}
+use Rattle.tank_links.specs.Laid.{end_in, start_in, into_in, out_of_in, group_in, begin_in, middle_in}
 use Rattle.tank_links.proofs.Fitting.{groups_few}
 use Rattle.tank_links.proofs.Putting.{sets_append, sets_last}
 
@@ -128,14 +128,14 @@ on_chain first next nodes k = linked 384 next (get_or first (get_or nodes k 0) 0
 
 module _ (table : List Link) {count : ℕ} {nodes : List ℕ} {n : ℕ} {into next-into out next-out : List ℕ}
     (a : Chains (end_in table) count into next-into) (b : Chains (start_in table) count out next-out) (inside : TanksInside nodes n) where
-  pub on_into : (k : ℕ) → k < n → on_chain into next-into nodes k ≡ into_in table count nodes k
+  on_into : (k : ℕ) → k < n → on_chain into next-into nodes k ≡ into_in table count nodes k
   on_into k l = a.chain (get_or nodes k 0) (inside.node k l)
 
-  pub on_out : (k : ℕ) → k < n → on_chain out next-out nodes k ≡ out_of_in table count nodes k
+  on_out : (k : ℕ) → k < n → on_chain out next-out nodes k ≡ out_of_in table count nodes k
   on_out k l = b.chain (get_or nodes k 0) (inside.node k l)
 
   module _ (distinct : Distinct nodes n) (few : count ≤ 384) where
-    pub place_fits : (k : ℕ) → k ≤ n → begin (on_chain into next-into nodes) (on_chain out next-out nodes) k ≤ 768
+    place_fits : (k : ℕ) → k ≤ n → begin (on_chain into next-into nodes) (on_chain out next-out nodes) k ≤ 768
     place_fits k l =
         omega (
           arith,
@@ -143,12 +143,35 @@ module _ (table : List Link) {count : ℕ} {nodes : List ℕ} {n : ℕ} {into ne
           groups_few table count nodes n distinct few k l,
         )
 
-    pub group_fits : (k : ℕ) → k < n
-        → begin (on_chain into next-into nodes) (on_chain out next-out nodes) k + length (on_chain into next-into nodes k) + length (on_chain out next-out nodes k) ≤ 768
-    group_fits k l =
-        omega (
-          arith,
-          place_fits (suc k) l,
-          joined_more (group (on_chain into next-into nodes) (on_chain out next-out nodes)) k,
-          length-append (on_chain into next-into nodes k) (on_chain out next-out nodes k),
-        )
+    module _ {begins₀ middles₀ links₀ : List ℕ} {k at : ℕ} {begins middles links : List ℕ}
+        (y : Laying (on_chain into next-into nodes) (on_chain out next-out nodes) n begins₀ middles₀ links₀ k at begins middles links) where
+      -- the place reached fits, and so does the next group
+      pub fits_here : at ≤ 768
+      fits_here = omega (arith, y.to, place_fits k y.most)
+
+      pub next_fits : k < n → at + length (on_chain into next-into nodes k) + length (on_chain out next-out nodes k) ≤ 768
+      next_fits l =
+          omega (
+            arith,
+            y.to,
+            place_fits (suc k) l,
+            joined_more (group (on_chain into next-into nodes) (on_chain out next-out nodes)) k,
+            length-append (on_chain into next-into nodes k) (on_chain out next-out nodes k),
+          )
+
+      -- what is laid out in the end, by the table of links
+      pub laid :
+          n ≤ k
+          → (set begins n at ≡ sets begins₀ 0 (listed (begin_in table count nodes) (suc n)))
+          × (middles ≡ sets middles₀ 0 (listed (middle_in table count nodes) n))
+          × (links ≡ sets links₀ 0 (joined (group_in table count nodes) n))
+      laid h =
+          let e = laying_ended y h in
+          let I = on_chain into next-into nodes in
+          let O = on_chain out next-out nodes in
+          let J = into_in table count nodes in
+          let P = out_of_in table count nodes in (
+            e.0 ∙ ap (sets begins₀ 0) (begins_same I O J P n on_into on_out),
+            e.1 ∙ ap (sets middles₀ 0) (middles_same I O J P n on_into on_out),
+            e.2 ∙ ap (sets links₀ 0) (group_same I O J P n on_into on_out n (omega arith)),
+          )

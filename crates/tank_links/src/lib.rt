@@ -6,4 +6,4 @@ mod judged;
 mod laid;
 
 pub use judged::is_laid_out;
-pub use laid::{lay_groups, lay_out, no_entries, no_middles, no_places};
+pub use laid::{LinkGroups, lay_groups, lay_out};

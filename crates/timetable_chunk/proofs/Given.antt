@@ -4,7 +4,7 @@ use mathlib.Core.Path.{◌≡◌, refl, ◌∙◌}
 use mathlib.Core.Bool.{Bool, true, false, cond, ◌&&◌}
 use mathlib.Core.List.{List, [], ◌∷◌}
 use native.Mathlib.Omega.{arith}
-use lib.ListN.{length, take, drop, get_or, length-append, length-drop, length-take}
+use lib.ListN.{length, take, drop, get_or, length-append}
 use lib.Seq.{take_at}
 use Rattle.listing.specs.Listing.{steps_line, refused_line}
 use Rattle.listing.specs.Text.{put, after, pasted}
@@ -12,7 +12,8 @@ use Rattle.listing.proofs.Pasting.{put_fits}
 use Rattle.model.specs.declared.project.Project.{Project}
 use Rattle.tables.specs.Tables.{tables_ok}
 use Rattle.stops_ahead.specs.Foreseen.{stops_foreseen, stops_of, next_stops, stops_given, fronted, stops_written}
-use Rattle.stops_ahead.specs.declared.next.StopsAnswer.TheVariants.{Stops, Unforeseen, Refused}
+use Rattle.std.specs.Prelude.{Ok, Err}
+use Rattle.stops_ahead.specs.declared.next.NoStops.TheVariants.{Unforeseen, Refused}
 use Rattle.timetable_chunk.specs.Timetable.{lines_text, none_line}
 use Rattle.timetable_chunk.specs.Answers.{Within, answer_text, answer_chunk}
 use Rattle.timetable_chunk.specs.Chunks.{last_of, counted, last_chunk, given_text, given_chunk, chunk_text, chunk_of}
@@ -54,21 +55,10 @@ module _ (p : Project) (instant : ℕ) (old : List ℕ) where
   answered_within = go (tables_ok p) (stops_foreseen p) (stops_of p instant)
     where
       go : (a b : Bool) (us : List ℕ)
-          → Within (cond a (cond b (Stops (length (take (length old) us))) Unforeseen) (Refused 10)) (fronted (cond (a && b) (take (length old) us) []) old)
+          → Within (cond a (cond b (Ok (length (take (length old) us))) (Err Unforeseen)) (Err (Refused 10))) (fronted (cond (a && b) (take (length old) us) []) old)
       go true true us = omega (arith, length-append (take (length old) us) (drop (length (take (length old) us)) old))
       go true false us = tt
       go false b us = tt
-
-  pub written_same : length (stops_written p instant old) ≡ length old
-  unfolding stops_given stops_written
-  written_same = go (tables_ok p && stops_foreseen p)
-    where
-      us : List ℕ
-      us = take (length old) (stops_of p instant)
-
-      go : (b : Bool) → length (fronted (cond b us []) old) ≡ length old
-      go true = omega (arith, length-append us (drop (length us) old), length-drop (length us) old, length-take (length old) (stops_of p instant))
-      go false = refl
 
   module _ (count : ℕ) (full : length old ≡ 4096) where
     pub answered_text : answer_text (next_stops p instant (length old)) (stops_written p instant old) count ≡ chunk_text p instant count
@@ -76,7 +66,7 @@ module _ (p : Project) (instant : ℕ) (old : List ℕ) where
     answered_text = rw (← full) (go (tables_ok p) (stops_foreseen p) (stops_of p instant))
       where
         go : (a b : Bool) (us : List ℕ)
-            → answer_text (cond a (cond b (Stops (length (take (length old) us))) Unforeseen) (Refused 10)) (fronted (cond (a && b) (take (length old) us) []) old) count
+            → answer_text (cond a (cond b (Ok (length (take (length old) us))) (Err Unforeseen)) (Err (Refused 10))) (fronted (cond (a && b) (take (length old) us) []) old) count
             ≡ cond a (cond b (given_text (take (length old) us) count) none_line) (refused_line 10)
         go true true us = rw (take_at (take (length old) us) (drop (length (take (length old) us)) old) (length (take (length old) us)) refl)
         go true false us = refl
@@ -87,7 +77,7 @@ module _ (p : Project) (instant : ℕ) (old : List ℕ) where
     answered_chunk = rw (← full) (go (tables_ok p) (stops_foreseen p) (stops_of p instant))
       where
         go : (a b : Bool) (us : List ℕ)
-            → answer_chunk (cond a (cond b (Stops (length (take (length old) us))) Unforeseen) (Refused 10)) (fronted (cond (a && b) (take (length old) us) []) old) instant count
+            → answer_chunk (cond a (cond b (Ok (length (take (length old) us))) (Err Unforeseen)) (Err (Refused 10))) (fronted (cond (a && b) (take (length old) us) []) old) instant count
             ≡ cond a (cond b (given_chunk (take (length old) us) instant count) (last_chunk (length none_line) instant count)) (last_chunk (length (refused_line 10)) instant count)
         go true true us = rw (take_at (take (length old) us) (drop (length (take (length old) us)) old) (length (take (length old) us)) refl)
         go true false us = refl

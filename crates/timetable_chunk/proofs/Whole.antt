@@ -6,7 +6,8 @@ use mathlib.Core.Bool.{Bool, true, false, cond, true≢false}
 use mathlib.Core.List.{List, [], ◌∷◌, ◌++◌, append_assoc}
 use native.Mathlib.Omega.{arith}
 use lib.ListN.{length, take, length-append, length-take}
-use borrow.Author.Tests.{lt-ltb, eq-eqb}
+use borrow.Author.Tests.{lt-ltb}
+use Rattle.std.specs.Prelude.{None}
 use Rattle.listing.specs.Listing.{Line, steps_line, refused_line}
 use Rattle.listing.proofs.Listing.{line_short}
 use Rattle.clock.specs.Triggers.{Trigger}
@@ -168,6 +169,6 @@ chunks_are p (more {instant} {count} {text} e rest) few =
     ap (λ (x : List ℕ). chunk_text p instant count ++ x) (chunks_are p rest w.few) ∙ w.text
 
 -- of an accepted image, from the start: what the program writes is what it is to print
-pub printed_is : (d : Decoded) {text : List ℕ} → d.fault ≡ 0 → Chunked d.project 0 0 text → text ≡ printed d
+pub printed_is : (d : Decoded) {text : List ℕ} → d.fault ≡ None → Chunked d.project 0 0 text → text ≡ printed d
 unfolding printed
-printed_is d e c = chunks_are d.project c (omega arith) ∙ rw (eq-eqb d.fault 0 e)
+printed_is d e c = chunks_are d.project c (omega arith) ∙ rw e

@@ -3,6 +3,7 @@ use Rattle.std.specs.Prelude.{ℕ, ◌+◌, cond, List, [], ◌∷◌, ◌++◌,
 use Rattle.listing.specs.Listing.{number_line, steps_line, refused_line}
 use Rattle.model.specs.declared.project.Project.{Project}
 use Rattle.tables.specs.Tables.{tables_ok}
+use Rattle.image.specs.Image.{number_of}
 use Rattle.image.specs.declared.walk.Decoded.{Decoded}
 use Rattle.stops_ahead.specs.Foreseen.{stops_foreseen, stops_of}
 
@@ -25,4 +26,4 @@ timetable p instant count = cond (tables_ok p) (cond (stops_foreseen p) (stops_t
 
 -- all that is printed for an image; a fault's line stands alone
 unfoldable pub printed : Decoded → List ℕ
-printed d = cond (eqb d.fault 0) (timetable d.project 0 0) (refused_line d.fault)
+printed d = cond (eqb (number_of d.fault) 0) (timetable d.project 0 0) (refused_line (number_of d.fault))

@@ -8,7 +8,7 @@ ghost use Rattle.timetable_chunk.specs.Answers.{Within, answer_text, answer_chun
 ghost use Rattle.timetable_chunk.specs.Chunks.{counted, last_chunk, given_text, given_chunk, chunk_text, chunk_of};
 
 use model::Project;
-use stops_ahead::{StopsAnswer, next_stops};
+use stops_ahead::{NoStops, next_stops};
 
 // How many bytes were written to the start of the buffer, the last instant written and the count of the stops up to it, and whether nothing comes after.
 #[derive(Clone, Copy)]
@@ -26,10 +26,8 @@ fn put_instants(instants: &[u32], out: &mut [u8]) -> usize
     ensures out_after { out.new ≡ pasted out.old 0 (lines_text instants.now) }
 {
     let mut at = 0;
-    let mut i = 0;
-    while i < instants.len() {
-        at = listing::put_number_line(out, at, instants[i]);
-        i += 1;
+    for instant in instants {
+        at = listing::put_number_line(out, at, *instant);
     }
     at
 }
@@ -38,10 +36,11 @@ fn put_instants(instants: &[u32], out: &mut [u8]) -> usize
 fn counted(count: u32, n: usize) -> u32
     ensures { result ≡ counted count n }
 {
-    if 4294967295 - (count as usize) < n {
-        return count;
+    if ((u32::MAX - count) as usize) < n {
+        count
+    } else {
+        count + n as u32
     }
-    count + (n as u32)
 }
 
 // A chunk with nothing after it.
@@ -49,9 +48,9 @@ fn last(written: usize, instant: u32, count: u32) -> Chunk
     ensures { result ≡ last_chunk written instant count }
 {
     Chunk {
-        written: written,
-        instant: instant,
-        count: count,
+        written,
+        instant,
+        count,
         over: true,
     }
 }
@@ -64,12 +63,11 @@ fn put_given(instants: &[u32], instant: u32, count: u32, out: &mut [u8]) -> Chun
 {
     let n = instants.len();
     if n == 0 {
-        let k = listing::put_steps_line(out, 0, count);
-        return last(k, instant, count);
+        return last(listing::put_steps_line(out, 0, count), instant, count);
     }
-    let k = put_instants(instants, out);
+    let written = put_instants(instants, out);
     Chunk {
-        written: k,
+        written,
         instant: instants[n - 1],
         count: counted(count, n),
         over: false,
@@ -78,7 +76,7 @@ fn put_given(instants: &[u32], instant: u32, count: u32, out: &mut [u8]) -> Chun
 
 // The chunk of an answer for a list of stops above an instant.
 fn put_answer(
-    answer: StopsAnswer,
+    answer: Result<usize, NoStops>,
     instants: &[u32],
     instant: u32,
     count: u32,
@@ -90,23 +88,14 @@ fn put_answer(
     ensures out_after { out.new ≡ pasted out.old 0 (answer_text answer instants.now count) }
 {
     match answer {
-        StopsAnswer::Stops(n) => put_given(&instants[..n], instant, count, out),
-        StopsAnswer::Unforeseen => {
-            let k = listing::put_text(out, 0, b"none\n");
-            last(k, instant, count)
-        }
-        StopsAnswer::Refused(number) => {
-            let k = listing::put_refused_line(out, 0, number);
-            last(k, instant, count)
-        }
+        Ok(n) => put_given(&instants[..n], instant, count, out),
+        Err(why) => match why {
+            NoStops::Unforeseen => last(listing::put_text(out, 0, b"none\n"), instant, count),
+            NoStops::Refused(number) => {
+                last(listing::put_refused_line(out, 0, number), instant, count)
+            }
+        },
     }
-}
-
-// Room for the stops of a chunk.
-fn chunk_space() -> [u32; 4096]
-    ensures { 4096 ≡ length result }
-{
-    [0; 4096]
 }
 
 // The chunk above an instant, where count stops lie up to it.
@@ -114,7 +103,7 @@ pub fn advance(p: Project, instant: u32, count: u32, out: &mut [u8; 65536]) -> C
     ensures value { result ≡ chunk_of p instant count }
     ensures out_after { out.new ≡ pasted out.old 0 (chunk_text p instant count) }
 {
-    let mut instants = chunk_space();
+    let mut instants = [0u32; 4096];
     let answer = next_stops(p, instant, &mut instants);
     put_answer(answer, &instants, instant, count, out)
 }

@@ -27,15 +27,15 @@ fn refuse<W: Write>(n: u32, out: &mut [u8], to: &mut W) -> io::Result<()> {
 fn write_chunks<W: Write>(p: Project, out: &mut [u8; 65536], to: &mut W) -> io::Result<()> {
     let mut instant = 0;
     let mut count = 0;
-    let mut over = false;
-    while !over {
+    'chunks: loop {
         let c = timetable_chunk::advance(p, instant, count, out);
         write(to, out, c.written)?;
+        if c.over {
+            return Ok(());
+        }
         instant = c.instant;
         count = c.count;
-        over = c.over;
     }
-    Ok(())
 }
 
 // Reads an image and writes its timetable, or the number of its fault.
@@ -47,10 +47,8 @@ pub fn tabulate<R: Read, W: Write>(
 ) -> io::Result<()> {
     let n = replay_input::read_image(from, bytes, table)?;
     let read = image::decode(&table[..n]);
-    let fault = read.fault;
-    let project = read.project;
-    if fault == 0 {
-        return write_chunks(project, bytes, to);
+    if let Some(fault) = read.fault {
+        return refuse(fault.number(), bytes, to);
     }
-    refuse(fault, bytes, to)
+    write_chunks(read.project, bytes, to)
 }

@@ -1,176 +1,87 @@
 -- `driver_chunk::advance` meets its contract: the invariant are the turns so far, of every project that tables and state are of. Assumes nothing.
 use Prim.Native.Nat.{◌-◌, ◌≤◌}
 use mathlib.Core.Bool.{true}
-use mathlib.Core.Path.{◌≡◌, sym, ap, ◌∙◌}
+use mathlib.Core.Path.{◌≡◌, refl, sym, ◌∙◌}
 use native.Mathlib.Omega.{arith}
-use Prim.Native.Nat.{ℕ}
+use borrow.Author.Rules.{rules}
 use lib.Ieee.{Float}
 use mathlib.Core.List.{List}
 use lib.ListN.{length}
 use Rattle.model.specs.declared.project.Project.{Project}
 use Rattle.model.specs.declared.state.State.{State}
 use Rattle.judge.specs.Judgement.{in_order}
-use Rattle.run_periods.specs.Applying.{Written}
+use Rattle.run_state.specs.Lists.{lists_of}
+use Rattle.run_state.specs.declared.Lists.{Lists}
 use Rattle.driver_load.proofs.Inner.{fit}
 use Rattle.driver_tables.specs.Laid.{Laid}
-use Rattle.run_state.specs.Lists.{lists_of}
 use Rattle.driver_tables.specs.declared.Tables.{Tables}
 use Rattle.driver_tables.proofs.Inside.{tables_inside}
-use Rattle.driver_turn.proofs.Made.{table_kept}
 use Rattle.driver_chunk.proofs.Going.{going_length}
-use Rattle.driver_chunk.proofs.Turns.{Begins, lists, held_at_first, taken_inside, turns_begun, turns_ended, turns_finished, turns_refused, turns_less, turns_step, can_now, late_now}
+use Rattle.driver_chunk.proofs.Turns.{Begins, Turns, turns_begun, turns_refused, turns_less, turns_step, turns_finished, turns_ended, taken_inside, can_now, late_now}
 use Rattle.driver_chunk.proofs.advance.Goals as goal
 
--- the arrays hold the state at first
-begins : {t : Tables} {multipliers : List Float} (s : State) {heads demands demand_flows flows settings : List Float} {statuses : List ℕ}
-    → length multipliers ≡ 5376 → length s.nodes ≡ 256 → length s.links ≡ 384
-    → lists heads demands demand_flows flows statuses settings s.clock ≡ lists_of s
-    → (p : Project) → Laid p t → multipliers ≡ p.multipliers → in_order p s ≡ true
-    → Begins p s t multipliers (lists heads demands demand_flows flows statuses settings s.clock)
+-- the lists hold the state at first
+begins : {t : Tables} {multipliers : List Float} (s : State) {a : Lists} → length multipliers ≡ 5376 → length s.nodes ≡ 256 → length s.links ≡ 384 → a ≡ lists_of s
+    → (p : Project) → Laid p t → multipliers ≡ p.multipliers → in_order p s ≡ true → Begins p s t multipliers a
 begins s whole nodes links held p laid same ordered =
     record { laid = laid; same = same; whole = whole; ordered = ordered; held = held; nodes = nodes; links = links }
 
-pub overflow_add-count : goal.overflow_add-count
-overflow_add-count c =
-    let q = tables_inside c.requires.laid (fit c.requires.project c.args.s c.requires.ordered) in
-    omega (arith, q.values)
-
-pub overflow_mul-size : goal.overflow_mul-size
-overflow_mul-size c =
-    let q = tables_inside c.requires.laid (fit c.requires.project c.args.s c.requires.ordered) in
-    omega (arith, q.values)
-
-pub overflow_add-size : goal.overflow_add-size
-overflow_add-size c =
-    let q = tables_inside c.requires.laid (fit c.requires.project c.args.s c.requires.ordered) in
-    omega (arith, q.values)
-
-pub overflow_mul-size-2 : goal.overflow_mul-size-2
-overflow_mul-size-2 c =
-    let q = tables_inside c.requires.laid (fit c.requires.project c.args.s c.requires.ordered) in
-    omega (arith, q.values)
-
-pub loop-t-init : goal.loop-t-init
-loop-t-init c = (sym c.no_table-table.ensures, λ p s b. turns_begun b c.wants_input-wants.ensures)
-
-pub overflow_sub-out : goal.overflow_sub-out
-overflow_sub-out c =
-    let begun = begins c.args.s c.requires.whole c.well_formed.1.1.0.1.1.0.1.0.1 c.well_formed.1.1.0.1.1.1.0.1.0.1
-    (held_at_first c.args.s c.heads_of-heads.ensures c.demands_of-demands.ensures c.demand_flows_of-demand_flows.ensures c.flows_of-flows.ensures c.statuses_of-statuses.ensures c.settings_of-settings.ensures) c.requires.project c.requires.laid c.requires.same c.requires.ordered in
-    let so_far = c.loop-t.invariant.1 c.requires.project c.args.s begun in
-    let g = so_far.going in omega (arith, g.put.room, going_length g)
-
-pub apply_patterns-in_force-requires : goal.apply_patterns-in_force-requires
-apply_patterns-in_force-requires c =
-    let q = tables_inside c.requires.laid (fit c.requires.project c.args.s c.requires.ordered) in
-    record { demands_inside = q.demands; heads_inside = q.heads; tanks_inside = q.tanks }
-
-pub apply_controls-requires : goal.apply_controls-requires
-apply_controls-requires c =
-    let q = tables_inside c.requires.laid (fit c.requires.project c.args.s c.requires.ordered) in
-    q.rows
-
-pub slice_bounds-load_left-count : goal.slice_bounds-load_left-count
-slice_bounds-load_left-count c =
-    let begun = begins c.args.s c.requires.whole c.well_formed.1.1.0.1.1.0.1.0.1 c.well_formed.1.1.0.1.1.1.0.1.0.1
-    (held_at_first c.args.s c.heads_of-heads.ensures c.demands_of-demands.ensures c.demand_flows_of-demand_flows.ensures c.flows_of-flows.ensures c.statuses_of-statuses.ensures c.settings_of-settings.ensures) c.requires.project c.requires.laid c.requires.same c.requires.ordered in
-    let so_far = c.loop-t.invariant.1 c.requires.project c.args.s begun in
-    so_far.going.inside
-
-pub slice_bounds-load_left-start : goal.slice_bounds-load_left-start
-slice_bounds-load_left-start c =
-    let begun = begins c.args.s c.requires.whole c.well_formed.1.1.0.1.1.0.1.0.1 c.well_formed.1.1.0.1.1.1.0.1.0.1
-    (held_at_first c.args.s c.heads_of-heads.ensures c.demands_of-demands.ensures c.demand_flows_of-demand_flows.ensures c.flows_of-flows.ensures c.statuses_of-statuses.ensures c.settings_of-settings.ensures) c.requires.project c.requires.laid c.requires.same c.requires.ordered in
-    let so_far = c.loop-t.invariant.1 c.requires.project c.args.s begun in
-    so_far.going.inside
-
-pub load_left-loaded-requires : goal.load_left-loaded-requires
-load_left-loaded-requires c =
-    let q = tables_inside c.requires.laid (fit c.requires.project c.args.s c.requires.ordered) in
-    record { count_bound = q.values; junctions_inside = q.junctions; links_inside = q.ends; tanks_inside = q.tanks }
-
-pub shape_of-out-then-fault-ne0 : goal.shape_of-out-then-fault-ne0
-shape_of-out-then-fault-ne0 c =
-    let begun = begins c.args.s c.requires.whole c.well_formed.1.1.0.1.1.0.1.0.1 c.well_formed.1.1.0.1.1.1.0.1.0.1
-    (held_at_first c.args.s c.heads_of-heads.ensures c.demands_of-demands.ensures c.demand_flows_of-demand_flows.ensures c.flows_of-flows.ensures c.statuses_of-statuses.ensures c.settings_of-settings.ensures) c.requires.project c.requires.laid c.requires.same c.requires.ordered in
-    let so_far = c.loop-t.invariant.1 c.requires.project c.args.s begun in
-    c.put_refused_line-end.auto.buf ∙ going_length so_far.going
-
-pub returns-then-fault-ne0 : goal.returns-then-fault-ne0
-returns-then-fault-ne0 c = λ p laid same ordered.
-    let l = c.loop-t in
-    let tested = can_now l.wants (length l.out - l.written) l.clock.instant c.args.t.options.duration c.can_step.ensures c.loop-t-test.true in
-    let b = begins c.args.s c.requires.whole c.well_formed.1.1.0.1.1.0.1.0.1 c.well_formed.1.1.0.1.1.1.0.1.0.1
-    (held_at_first c.args.s c.heads_of-heads.ensures c.demands_of-demands.ensures c.demand_flows_of-demand_flows.ensures c.flows_of-flows.ensures c.statuses_of-statuses.ensures c.settings_of-settings.ensures) p laid same ordered in
-    turns_refused b (c.loop-t.invariant.1 p c.args.s b) tested.0 tested.1 c.loop-t.table c.loop-t.invariant.0 c.apply_patterns-in_force.ensures.value c.apply_patterns-in_force.ensures.demand_flows_value c.clock_time-hour.ensures c.apply_controls.ensures c.load_left-loaded.ensures c.if-fault-ne0.true c.state_of-state.ensures c.put_refused_line-end.ensures.value c.put_refused_line-end.ensures.buf_after
+pub loop-table-init : goal.loop-table-init
+loop-table-init c = record {
+  wide = search rules;
+  long = refl;
+  room = omega arith;
+  inside = omega arith;
+  turns = λ p s b. turns_begun b (c.wants_input-wants.ensures ∙ rw c.count.ensures);
+}
 
 pub step-length-requires : goal.step-length-requires
 step-length-requires c =
     let q = tables_inside c.requires.laid (fit c.requires.project c.args.s c.requires.ordered) in
-    record { tanks_inside = q.tanks; groups_inside = q.groups; levels_inside = q.levels; levels_bound = (q.levels_few, q.times_few, q.clocks_few) }
+    record { groups_inside = q.groups; levels_inside = q.levels }
 
 pub overflow_add-used : goal.overflow_add-used
-overflow_add-used c =
-    let q = tables_inside c.requires.laid (fit c.requires.project c.args.s c.requires.ordered) in
-    let begun = begins c.args.s c.requires.whole c.well_formed.1.1.0.1.1.0.1.0.1 c.well_formed.1.1.0.1.1.1.0.1.0.1
-    (held_at_first c.args.s c.heads_of-heads.ensures c.demands_of-demands.ensures c.demand_flows_of-demand_flows.ensures c.flows_of-flows.ensures c.statuses_of-statuses.ensures c.settings_of-settings.ensures) c.requires.project c.requires.laid c.requires.same c.requires.ordered in
-    let so_far = c.loop-t.invariant.1 c.requires.project c.args.s begun in
-    omega (arith, taken_inside c.args.input.now c.loop-t.used c.load_left-loaded.ensures so_far.going.inside, c)
+overflow_add-used c = omega (arith, taken_inside c.args.input.now c.loop-table.used c.load_left.ensures c.in-Ok.taken c.in-Ok.is c.loop-table.invariant.inside, c)
 
 pub overflow_sub-input : goal.overflow_sub-input
-overflow_sub-input c =
-    let q = tables_inside c.requires.laid (fit c.requires.project c.args.s c.requires.ordered) in
-    let begun = begins c.args.s c.requires.whole c.well_formed.1.1.0.1.1.0.1.0.1 c.well_formed.1.1.0.1.1.1.0.1.0.1
-    (held_at_first c.args.s c.heads_of-heads.ensures c.demands_of-demands.ensures c.demand_flows_of-demand_flows.ensures c.flows_of-flows.ensures c.statuses_of-statuses.ensures c.settings_of-settings.ensures) c.requires.project c.requires.laid c.requires.same c.requires.ordered in
-    let so_far = c.loop-t.invariant.1 c.requires.project c.args.s begun in
-    taken_inside c.args.input.now c.loop-t.used c.load_left-loaded.ensures so_far.going.inside
+overflow_sub-input c = taken_inside c.args.input.now c.loop-table.used c.load_left.ensures c.in-Ok.taken c.in-Ok.is c.loop-table.invariant.inside
 
-pub loop-t-smaller : goal.loop-t-smaller
-loop-t-smaller c =
-    let begun = begins c.args.s c.requires.whole c.well_formed.1.1.0.1.1.0.1.0.1 c.well_formed.1.1.0.1.1.1.0.1.0.1
-    (held_at_first c.args.s c.heads_of-heads.ensures c.demands_of-demands.ensures c.demand_flows_of-demand_flows.ensures c.flows_of-flows.ensures c.statuses_of-statuses.ensures c.settings_of-settings.ensures) c.requires.project c.requires.laid c.requires.same c.requires.ordered in
-    let so_far = c.loop-t.invariant.1 c.requires.project c.args.s begun in
-    let l = c.loop-t in
-    let tested = can_now l.wants (length l.out - l.written) l.clock.instant c.args.t.options.duration c.can_step.ensures c.loop-t-test.true in
-    turns_less begun so_far tested.0 tested.1 c.loop-t.table c.loop-t.invariant.0 c.apply_patterns-in_force.ensures.value c.apply_patterns-in_force.ensures.demand_flows_value c.clock_time-hour.ensures c.apply_controls.ensures c.load_left-loaded.ensures c.if-fault-ne0.false c.step-length.ensures.statuses_after c.step-length.ensures.demands_after c.step-length.ensures.value c.step-length.ensures.heads_after c.advanced-clock.ensures c.put_step_line-written.ensures.value c.put_step_line-written.ensures.buf_after
+pub loop-table-smaller : goal.loop-table-smaller
+loop-table-smaller c =
+    let tested = can_now c.loop-table.wants (length c.loop-table.out - c.loop-table.written) c.loop-table.lists.clock.instant c.args.t.now.options.duration c.can_step.ensures c.loop-table-test.true in
+    let b = begins c.args.s c.told-multipliers c.well_formed.1.1.0.1.1.0.1.0.1 c.well_formed.1.1.0.1.1.1.0.1.0.1 c.of-lists.ensures c.requires.project c.requires.laid c.requires.same c.requires.ordered in
+    turns_less b (c.loop-table.invariant.turns c.requires.project c.args.s b) tested.0 tested.1 c.loop-table.table c.loop-table.invariant.wide c.apply_patterns-in_force.ensures.value c.apply_patterns-in_force.ensures.lists_after c.apply_patterns-in_force.ensures.links_stay c.apply_patterns-in_force.ensures.clock_stays c.clock_time-hour.ensures c.apply_controls.ensures c.load_left.ensures c.in-Ok.taken c.in-Ok.is c.step-length.ensures.value c.step-length.ensures.lists_after c.put_step_line-written.ensures.value c.put_step_line-written.ensures.buf_after
 
-pub loop-t-preserved : goal.loop-t-preserved
-loop-t-preserved c = let l = c.loop-t in
-    let tested = can_now l.wants (length l.out - l.written) l.clock.instant c.args.t.options.duration c.can_step.ensures c.loop-t-test.true in (
-      ap (λ (w : Written). length w.table) (sym c.apply_patterns-in_force.ensures.demand_flows_value) ∙ table_kept _ _ _ _ _ _ ∙ c.loop-t.invariant.0,
-      λ p s b. turns_step b (c.loop-t.invariant.1 p s b) tested.0 tested.1 c.loop-t.table c.loop-t.invariant.0 c.apply_patterns-in_force.ensures.value c.apply_patterns-in_force.ensures.demand_flows_value c.clock_time-hour.ensures c.apply_controls.ensures c.load_left-loaded.ensures c.if-fault-ne0.false c.step-length.ensures.statuses_after c.step-length.ensures.demands_after c.step-length.ensures.value c.step-length.ensures.heads_after c.advanced-clock.ensures c.put_step_line-written.ensures.value c.put_step_line-written.ensures.buf_after c.wants_input-wants-in-loop-t.ensures,
-    )
+pub loop-table-preserved : goal.loop-table-preserved
+loop-table-preserved c =
+    let tested = can_now c.loop-table.wants (length c.loop-table.out - c.loop-table.written) c.loop-table.lists.clock.instant c.args.t.now.options.duration c.can_step.ensures c.loop-table-test.true in
+    let next = λ (p : Project) (s : State) (b : Begins p s c.args.t.now c.args.multipliers.now c.of-lists.result).
+    turns_step b (c.loop-table.invariant.turns p s b) tested.0 tested.1 c.loop-table.table c.loop-table.invariant.wide c.apply_patterns-in_force.ensures.value c.apply_patterns-in_force.ensures.lists_after c.apply_patterns-in_force.ensures.links_stay c.apply_patterns-in_force.ensures.clock_stays c.clock_time-hour.ensures c.apply_controls.ensures c.load_left.ensures c.in-Ok.taken c.in-Ok.is c.step-length.ensures.value c.step-length.ensures.lists_after c.put_step_line-written.ensures.value c.put_step_line-written.ensures.buf_after
+    (c.wants_input-wants-in-loop-table.ensures ∙ rw c.count.ensures) in
+    let here = next c.requires.project c.args.s (begins c.args.s c.told-multipliers c.well_formed.1.1.0.1.1.0.1.0.1 c.well_formed.1.1.0.1.1.1.0.1.0.1 c.of-lists.ensures c.requires.project c.requires.laid c.requires.same c.requires.ordered) in
+    record {
+      wide = c.apply_patterns-in_force.array_long;
+      long = going_length here.going;
+      room = omega (arith, here.going.put.room, going_length here.going);
+      inside = here.going.inside;
+      turns = next;
+    }
 
-pub overflow_sub-out-2 : goal.overflow_sub-out-2
-overflow_sub-out-2 c =
-    let begun = begins c.args.s c.requires.whole c.well_formed.1.1.0.1.1.0.1.0.1 c.well_formed.1.1.0.1.1.1.0.1.0.1
-    (held_at_first c.args.s c.heads_of-heads.ensures c.demands_of-demands.ensures c.demand_flows_of-demand_flows.ensures c.flows_of-flows.ensures c.statuses_of-statuses.ensures c.settings_of-settings.ensures) c.requires.project c.requires.laid c.requires.same c.requires.ordered in
-    let so_far = c.loop-t.invariant.1 c.requires.project c.args.s begun in
-    let g = so_far.going in omega (arith, g.put.room, going_length g)
-
-pub shape_of-out-then-can_turn : goal.shape_of-out-then-can_turn
-shape_of-out-then-can_turn c =
-    let begun = begins c.args.s c.requires.whole c.well_formed.1.1.0.1.1.0.1.0.1 c.well_formed.1.1.0.1.1.1.0.1.0.1
-    (held_at_first c.args.s c.heads_of-heads.ensures c.demands_of-demands.ensures c.demand_flows_of-demand_flows.ensures c.flows_of-flows.ensures c.statuses_of-statuses.ensures c.settings_of-settings.ensures) c.requires.project c.requires.laid c.requires.same c.requires.ordered in
-    let so_far = c.loop-t.invariant.1 c.requires.project c.args.s begun in
-    c.put_steps_line-end.auto.buf ∙ going_length so_far.going
+pub returns-in-Err : goal.returns-in-Err
+returns-in-Err c = λ p laid same ordered.
+    let tested = can_now c.loop-table.wants (length c.loop-table.out - c.loop-table.written) c.loop-table.lists.clock.instant c.args.t.now.options.duration c.can_step.ensures c.loop-table-test.true in
+    let b = begins c.args.s c.told-multipliers c.well_formed.1.1.0.1.1.0.1.0.1 c.well_formed.1.1.0.1.1.1.0.1.0.1 c.of-lists.ensures p laid same ordered in
+    turns_refused b (c.loop-table.invariant.turns p c.args.s b) tested.0 tested.1 c.loop-table.table c.loop-table.invariant.wide c.apply_patterns-in_force.ensures.value c.apply_patterns-in_force.ensures.lists_after c.apply_patterns-in_force.ensures.links_stay c.apply_patterns-in_force.ensures.clock_stays c.clock_time-hour.ensures c.apply_controls.ensures c.load_left.ensures _ c.in-Err.is c.number.ensures c.state.ensures c.put_refused_line-end.ensures.value c.put_refused_line-end.ensures.buf_after
 
 pub returns-then-can_turn : goal.returns-then-can_turn
 returns-then-can_turn c = λ p laid same ordered.
-    let b = begins c.args.s c.requires.whole c.well_formed.1.1.0.1.1.0.1.0.1 c.well_formed.1.1.0.1.1.1.0.1.0.1
-    (held_at_first c.args.s c.heads_of-heads.ensures c.demands_of-demands.ensures c.demand_flows_of-demand_flows.ensures c.flows_of-flows.ensures c.statuses_of-statuses.ensures c.settings_of-settings.ensures) p laid same ordered in
+    let b = begins c.args.s c.told-multipliers c.well_formed.1.1.0.1.1.0.1.0.1 c.well_formed.1.1.0.1.1.1.0.1.0.1 c.of-lists.ensures p laid same ordered in
     let can = sym c.can_turn.ensures ∙ c.if-can_turn.true in
-    turns_finished b (c.loop-t.invariant.1 p c.args.s b) can (late_now c.loop-t.wants (length c.loop-t.out - c.loop-t.written) c.loop-t.clock.instant c.args.t.options.duration c.can_step.ensures c.loop-t-test.false can) c.state_of-state-2.ensures c.put_steps_line-end.ensures.value c.put_steps_line-end.ensures.buf_after
-
-pub shape_of-out : goal.shape_of-out
-shape_of-out c =
-    let begun = begins c.args.s c.requires.whole c.well_formed.1.1.0.1.1.0.1.0.1 c.well_formed.1.1.0.1.1.1.0.1.0.1
-    (held_at_first c.args.s c.heads_of-heads.ensures c.demands_of-demands.ensures c.demand_flows_of-demand_flows.ensures c.flows_of-flows.ensures c.statuses_of-statuses.ensures c.settings_of-settings.ensures) c.requires.project c.requires.laid c.requires.same c.requires.ordered in
-    let so_far = c.loop-t.invariant.1 c.requires.project c.args.s begun in
-    going_length so_far.going
+    turns_finished b (c.loop-table.invariant.turns p c.args.s b) can
+    (late_now c.loop-table.wants (length c.loop-table.out - c.loop-table.written) c.loop-table.lists.clock.instant c.args.t.now.options.duration c.can_step.ensures c.loop-table-test.false can)
+    c.state-then-can_turn.ensures c.put_steps_line-end.ensures.value c.put_steps_line-end.ensures.buf_after
 
 pub returns : goal.returns
 returns c = λ p laid same ordered.
-    let b = begins c.args.s c.requires.whole c.well_formed.1.1.0.1.1.0.1.0.1 c.well_formed.1.1.0.1.1.1.0.1.0.1
-    (held_at_first c.args.s c.heads_of-heads.ensures c.demands_of-demands.ensures c.demand_flows_of-demand_flows.ensures c.flows_of-flows.ensures c.statuses_of-statuses.ensures c.settings_of-settings.ensures) p laid same ordered in
-    turns_ended b (c.loop-t.invariant.1 p c.args.s b) c.state_of-state-2.ensures (sym c.can_turn.ensures ∙ c.if-can_turn.false)
+    let b = begins c.args.s c.told-multipliers c.well_formed.1.1.0.1.1.0.1.0.1 c.well_formed.1.1.0.1.1.1.0.1.0.1 c.of-lists.ensures p laid same ordered in
+    turns_ended b (c.loop-table.invariant.turns p c.args.s b) c.state-2.ensures (sym c.can_turn.ensures ∙ c.if-can_turn.false)

@@ -3,4 +3,4 @@ use Rattle.driver_io.proofs.Opened.{opened}
 use Rattle.driver_io.proofs.open_image.Goals as goal
 
 pub returns : goal.returns
-returns g c = let e = c.decode_into.ensures in opened _ e.value e.lengths_after e.multipliers_after
+returns g c = opened _ _ c.decode_into.ensures.fault c.decode_into.ensures.tables

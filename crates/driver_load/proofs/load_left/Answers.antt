@@ -1,32 +1,28 @@
 -- `driver_load::load_left` meets its contract: the words are lent, filled and read. Assumes nothing.
-use mathlib.Core.Path.{sym}
-use lib.Seq.{length-take-le}
-use Rattle.words.proofs.Filling.{lent_words, lent_room}
-use Rattle.driver_load.specs.Left.{none, cut, whole}
-use Rattle.driver_load.proofs.Taken.{judged_as}
+use mathlib.Core.Path.{◌≡◌, sym, ◌∙◌}
+use native.Mathlib.Omega.{arith}
 use borrow.Author.Rules.{rules}
+use borrow.Author.Tests.{eqb-true, eqb-false}
+use Rattle.driver_load.specs.Left.{none, cut, faulty, whole}
+use Rattle.driver_load.proofs.Words.{words_read}
 use Rattle.driver_load.proofs.load_left.Goals as goal
 
-pub returns-then-bytes-eq0 : goal.returns-then-bytes-eq0
-returns-then-bytes-eq0 c = none c.if-bytes-eq0.true
+pub returns-then-is_empty : goal.returns-then-is_empty
+returns-then-is_empty c = none (eqb-true _ _ (sym c.is_empty.ensures ∙ c.if-is_empty.true))
 
 pub returns-then-bytes-size : goal.returns-then-bytes-size
-returns-then-bytes-size c = cut c.if-bytes-eq0.false c.if-bytes-size.true
+returns-then-bytes-size c = cut (eqb-false _ _ (sym c.is_empty.ensures ∙ c.if-is_empty.false)) (omega (arith, c.if-bytes-size.true, c.count.ensures))
 
-pub slice_bounds-words_of-end : goal.slice_bounds-words_of-end
-slice_bounds-words_of-end c = sym (length-take-le _ _ (search rules))
-
-pub slice_bounds-words-end-2 : goal.slice_bounds-words-end-2
-slice_bounds-words-end-2 c = lent_room _ c.space-words.result c.words_of.new.words (search rules) c.words_of.auto.words
-
-pub slice_bounds-take_words-end : goal.slice_bounds-take_words-end
-slice_bounds-take_words-end c = sym (length-take-le _ _ (lent_room _ c.space-words.result c.words_of.new.words (search rules) c.words_of.auto.words))
+pub returns-in-Err : goal.returns-in-Err
+returns-in-Err c =
+    let w = c.words_of.ensures in
+    let e = words_read _ c.args.bytes.now _ c.words_of.new.words _ c.if-bytes-size.false (search rules) w.value w.words_after in
+    faulty (eqb-false _ _ (sym c.is_empty.ensures ∙ c.if-is_empty.false)) (omega (arith, c.if-bytes-size.false, c.count.ensures)) _
+    (c.in-Err.ensures ∙ rw (e, c.count.ensures))
 
 pub returns : goal.returns
 returns c =
-    let a = c.args in
-    let w = c.words_of in
-    whole c.if-bytes-eq0.false c.if-bytes-size.false _ c.take_words-fault.result c.taken_bytes.result
-    (judged_as
-    (lent_words _ a.bytes.now _ _ _ c.if-bytes-size.false (search rules) w.ensures.value w.ensures.words_after) c.take_words-fault.ensures)
-    c.taken_bytes.ensures
+    let w = c.words_of.ensures in
+    let e = words_read _ c.args.bytes.now _ c.words_of.new.words _ c.if-bytes-size.false (search rules) w.value w.words_after in
+    whole (eqb-false _ _ (sym c.is_empty.ensures ∙ c.if-is_empty.false)) (omega (arith, c.if-bytes-size.false, c.count.ensures)) (c.in_default.ensures ∙ rw (e, c.count.ensures)) _
+    (c.take.ensures ∙ rw (e, c.count.ensures)) _ (rw c.count.ensures)

@@ -19,6 +19,6 @@ made p s x y z d e f g = g ∙ rw (d, e, f, x, y, z)
 
 pub returns : goal.returns
 returns c =
-    let a = c.args in
+    let empty = c.empty-groups.ensures in
     let l = c.lay_out_tank_links.ensures in
-    made a.p a.s c.no_places-begins.ensures c.no_middles-middles.ensures c.no_entries-links.ensures l.begins_after l.middles_after l.links_after c.update_tank_links_by.ensures
+    made c.args.p c.args.s empty.begins empty.middles empty.links l.begins_after l.middles_after l.links_after c.update_tank_links_by.ensures

@@ -1,10 +1,9 @@
-use Prim.Native.Nat.{◌-◌}
 use lib.ListN.{length}
 use Rattle.list_run.proofs.Counts.{Running}
 use Rattle.list_run.proofs.run_calls.Given as goal
 
-abbrev pub invariant-loop-at : goal.invariant-loop-at
-invariant-loop-at l = Running l.p l.initial.r l.words l.at l.r
+abbrev pub invariant-loop-rest : goal.invariant-loop-rest
+invariant-loop-rest l = Running l.p l.initial.r l.words l.rest l.r
 
-abbrev pub decreases-loop-at : goal.decreases-loop-at
-decreases-loop-at l = length l.words - l.at
+abbrev pub decreases-loop-rest : goal.decreases-loop-rest
+decreases-loop-rest l = length l.rest

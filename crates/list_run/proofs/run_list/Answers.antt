@@ -52,26 +52,26 @@ module _ (p : Project) (words : List ℕ) (z : ListRun) where
   ran_list n l e = (rw (eq-eqb (start p).number 0 n, l) e, λ q. answers p (calls_of 0 words) z (start_tables p n) e)
 
 pub returns-then-number-ne0 : goal.returns-then-number-ne0
-returns-then-number-ne0 c = record { value = (refused_start c.args.p c.args.words.now _ (λ q. c.if-number-ne0.true (ap (λ (k : Called). k.number) c.new_with_initial_values-started.ensures ∙ q)) (c.none_run.ensures ∙ ap (λ (k : Called). none_run k.number k.state) c.new_with_initial_values-started.ensures)).0; answers = (refused_start c.args.p c.args.words.now _ (λ q. c.if-number-ne0.true (ap (λ (k : Called). k.number) c.new_with_initial_values-started.ensures ∙ q)) (c.none_run.ensures ∙ ap (λ (k : Called). none_run k.number k.state) c.new_with_initial_values-started.ensures)).1 }
+returns-then-number-ne0 c = record { value = (refused_start c.args.p c.args.words.now _ (λ q. c.if-number-ne0.true (ap (λ (k : Called). k.number) c.new_with_initial_values-number.ensures ∙ q)) (c.none_run.ensures ∙ ap (λ (k : Called). none_run k.number k.state) c.new_with_initial_values-number.ensures)).0; answers = (refused_start c.args.p c.args.words.now _ (λ q. c.if-number-ne0.true (ap (λ (k : Called). k.number) c.new_with_initial_values-number.ensures ∙ q)) (c.none_run.ensures ∙ ap (λ (k : Called). none_run k.number k.state) c.new_with_initial_values-number.ensures)).1 }
 
 pub returns-then-not-list_ok : goal.returns-then-not-list_ok
-returns-then-not-list_ok c = record { value = (refused_list c.args.p c.args.words.now _ (sym (ap (λ (k : Called). k.number) c.new_with_initial_values-started.ensures) ∙ c.if-number-ne0.false) (sym c.list_ok.ensures ∙ c.if-not-list_ok.true) (c.none_run-then-not-list_ok.ensures ∙ ap (λ (k : Called). none_run 18 k.state) c.new_with_initial_values-started.ensures)).0; answers = (refused_list c.args.p c.args.words.now _ (sym (ap (λ (k : Called). k.number) c.new_with_initial_values-started.ensures) ∙ c.if-number-ne0.false) (sym c.list_ok.ensures ∙ c.if-not-list_ok.true) (c.none_run-then-not-list_ok.ensures ∙ ap (λ (k : Called). none_run 18 k.state) c.new_with_initial_values-started.ensures)).1 }
+returns-then-not-list_ok c = record { value = (refused_list c.args.p c.args.words.now _ (sym (ap (λ (k : Called). k.number) c.new_with_initial_values-number.ensures) ∙ c.if-number-ne0.false) (sym c.list_ok.ensures ∙ c.if-not-list_ok.true) (c.none_run-then-not-list_ok.ensures ∙ ap (λ (k : Called). none_run 18 k.state) c.new_with_initial_values-number.ensures)).0; answers = (refused_list c.args.p c.args.words.now _ (sym (ap (λ (k : Called). k.number) c.new_with_initial_values-number.ensures) ∙ c.if-number-ne0.false) (sym c.list_ok.ensures ∙ c.if-not-list_ok.true) (c.none_run-then-not-list_ok.ensures ∙ ap (λ (k : Called). none_run 18 k.state) c.new_with_initial_values-number.ensures)).1 }
 
 pub second_applies-requires : goal.second_applies-requires
-second_applies-requires c = tables_fit c.args.p (start_tables c.args.p (sym (ap (λ (k : Called). k.number) c.new_with_initial_values-started.ensures) ∙ c.if-number-ne0.false))
+second_applies-requires c = tables_fit c.args.p (start_tables c.args.p (sym (ap (λ (k : Called). k.number) c.new_with_initial_values-number.ensures) ∙ c.if-number-ne0.false))
 
 pub run_calls-requires : goal.run_calls-requires
 run_calls-requires c =
-    let p = c.args.p in record { serves_value = c.second_applies.ensures; s_value = ap (λ (k : Called). in_order p k.state) c.new_with_initial_values-started.ensures ∙ start_in_order p (sym (ap (λ (k : Called). k.number) c.new_with_initial_values-started.ensures) ∙ c.if-number-ne0.false); words_value = sym c.list_ok.ensures ∙ c.if-not-list_ok.false }
+    let p = c.args.p in record { serves_value = c.second_applies.ensures; s_value = ap (λ (k : Called). in_order p k.state) c.new_with_initial_values-number.ensures ∙ start_in_order p (sym (ap (λ (k : Called). k.number) c.new_with_initial_values-number.ensures) ∙ c.if-number-ne0.false); words_value = sym c.list_ok.ensures ∙ c.if-not-list_ok.false }
 
 pub returns : goal.returns
 returns c =
     let a = c.args in
     record {
-      value = (ran_list a.p a.words.now _ (sym (ap (λ (k : Called). k.number) c.new_with_initial_values-started.ensures) ∙ c.if-number-ne0.false)
+      value = (ran_list a.p a.words.now _ (sym (ap (λ (k : Called). k.number) c.new_with_initial_values-number.ensures) ∙ c.if-number-ne0.false)
           (sym c.list_ok.ensures ∙ c.if-not-list_ok.false)
-          (c.run_calls.ensures ∙ ap (λ (k : Called). counted_all a.p (calls_of 0 a.words.now) (none_run 0 k.state)) c.new_with_initial_values-started.ensures)).0;
-      answers = (ran_list a.p a.words.now _ (sym (ap (λ (k : Called). k.number) c.new_with_initial_values-started.ensures) ∙ c.if-number-ne0.false)
+          (c.run_calls.ensures ∙ ap (λ (k : Called). counted_all a.p (calls_of 0 a.words.now) (none_run 0 k.state)) c.new_with_initial_values-number.ensures)).0;
+      answers = (ran_list a.p a.words.now _ (sym (ap (λ (k : Called). k.number) c.new_with_initial_values-number.ensures) ∙ c.if-number-ne0.false)
           (sym c.list_ok.ensures ∙ c.if-not-list_ok.false)
-          (c.run_calls.ensures ∙ ap (λ (k : Called). counted_all a.p (calls_of 0 a.words.now) (none_run 0 k.state)) c.new_with_initial_values-started.ensures)).1;
+          (c.run_calls.ensures ∙ ap (λ (k : Called). counted_all a.p (calls_of 0 a.words.now) (none_run 0 k.state)) c.new_with_initial_values-number.ensures)).1;
     }

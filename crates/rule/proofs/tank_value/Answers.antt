@@ -3,9 +3,6 @@ use lib.Ieee.{of_bits}
 use Rattle.number.specs.Constants.{decimal}
 use Rattle.rule.proofs.tank_value.Goals as goal
 
-pub returns-in-Level : goal.returns-in-Level
-returns-in-Level c = rw c.in-Level.is
-
 pub returns-in-FillTime : goal.returns-in-FillTime
 unfolding decimal of_bits
 returns-in-FillTime c = rw (c.in-FillTime.is, ← c.time_to_reach_level.ensures, c.u64_to_f64.ensures)

@@ -16,7 +16,3 @@ returns-then-not-number_ok c = sym (held_failed _ _ c.loop-i.i (search rules) (f
 
 pub loop-i-preserved : goal.loop-i-preserved
 loop-i-preserved c = held_turned c.loop-i.invariant (search rules) (passed c.number_ok.ensures c.if-not-number_ok.false)
-
-pub returns : goal.returns
-unfolding multipliers_ok
-returns c = sym (held_ended c.loop-i.invariant c.loop-i-test.false refl)

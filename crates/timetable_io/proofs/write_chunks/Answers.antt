@@ -1,6 +1,5 @@
 -- `timetable_io::write_chunks` meets its contract: it ends. Assumes nothing.
 use mathlib.Core.Path.{ap}
-use mathlib.Core.Bool.{not}
 use native.Mathlib.Omega.{arith}
 use Rattle.timetable_chunk.specs.declared.Chunk.{Chunk}
 use Rattle.timetable_chunk.proofs.Whole.{chunk_short}
@@ -9,10 +8,8 @@ use Rattle.timetable_io.proofs.write_chunks.Goals as goal
 
 pub write-requires : goal.write-requires
 write-requires g c =
-    let l = c.loop-over in
+    let l = c.chunks in
     omega (arith, ap (λ (x : Chunk). x.written) c.advance-c.ensures.value, chunk_short c.args.p l.instant l.count)
 
-pub loop-over-smaller : goal.loop-over-smaller
-loop-over-smaller g c =
-    let l = c.loop-over in
-    less_left c.args.p l.instant l.count l.over (ap not c.loop-over-test.true) _ c.advance-c.ensures.value
+pub chunks-smaller : goal.chunks-smaller
+chunks-smaller g c = less_left c.args.p c.chunks.instant c.chunks.count _ c.advance-c.ensures.value c.if-c.false

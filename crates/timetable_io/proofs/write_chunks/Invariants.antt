@@ -1,8 +1,5 @@
-use Rattle.timetable_io.proofs.Ending.{left}
+use Prim.Native.Nat.{◌-◌}
 use Rattle.timetable_io.proofs.write_chunks.Given as goal
 
-abbrev pub invariant-loop-over : goal.invariant-loop-over
-invariant-loop-over g l = Unit {0}
-
-abbrev pub decreases-loop-over : goal.decreases-loop-over
-decreases-loop-over g l = left l.over l.instant
+abbrev pub decreases-chunks : goal.decreases-chunks
+decreases-chunks g l = 315360000 - l.instant

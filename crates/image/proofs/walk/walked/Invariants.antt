@@ -1,10 +1,10 @@
-use Prim.Native.Nat.{◌-◌}
+use mathlib.Core.Path.{◌≡◌}
 use lib.ListN.{length}
-use Rattle.image.proofs.Answers.{Walked}
+use Rattle.image.specs.Image.{decode, walk}
 use Rattle.image.proofs.walk.walked.Given as goal
 
-abbrev pub invariant-loop-at : goal.invariant-loop-at
-invariant-loop-at l = Walked l.words l.at l.stage l.t l.lengths l.multipliers
+abbrev pub invariant-loop-header : goal.invariant-loop-header
+invariant-loop-header l = decode l.words ≡ walk l.rest 0 l.stage l.p
 
-abbrev pub decreases-loop-at : goal.decreases-loop-at
-decreases-loop-at l = length l.words - l.at
+abbrev pub decreases-loop-header : goal.decreases-loop-header
+decreases-loop-header l = length l.rest

@@ -1,4 +1,3 @@
-use Prim.Native.Nat.{◌-◌}
 use Rattle.listing.proofs.Digits.{Spelled}
 use Rattle.listing.proofs.decimal.spell.Given as goal
 

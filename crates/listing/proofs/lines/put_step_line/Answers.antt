@@ -4,44 +4,11 @@ use native.Mathlib.Omega.{arith}
 use Rattle.listing.specs.Numbers.{decimal_text}
 use Rattle.listing.specs.Listing.{step_line}
 use Rattle.listing.proofs.Listing.{step_size, step_made}
-use Rattle.listing.proofs.Pasting.{put_begun, put_then, put_as, with_room, room_found, no_room}
+use Rattle.listing.proofs.Pasting.{put_begun, put_then, put_as, with_room, room_found}
 use Rattle.listing.proofs.lines.put_step_line.Goals as goal
 
-pub returns-then-not-has_room : goal.returns-then-not-has_room
-returns-then-not-has_room c =
-    let a = c.args in
-    record { value = (no_room a.buf.now a.at (step_line a.from a.seconds) (step_size a.from a.seconds c.places-a.ensures.value c.places-b.ensures.value) c.has_room.ensures c.if-not-has_room.true).0; buf_after = (no_room a.buf.now a.at (step_line a.from a.seconds) (step_size a.from a.seconds c.places-a.ensures.value c.places-b.ensures.value) c.has_room.ensures c.if-not-has_room.true).1 }
-
-pub spell-i-requires : goal.spell-i-requires
-spell-i-requires c =
-    let a = c.args in
-    let size = step_size a.from a.seconds c.places-a.ensures.value c.places-b.ensures.value in
-    let room = room_found a.buf.now a.at (step_line a.from a.seconds) size c.has_room.ensures c.if-not-has_room.false in
-    record { k_value = c.places-a.ensures.value; k_in_bounds = omega arith }
-
-pub put_byte-j-requires : goal.put_byte-j-requires
-put_byte-j-requires c =
-    let a = c.args in
-    let size = step_size a.from a.seconds c.places-a.ensures.value c.places-b.ensures.value in
-    let room = room_found a.buf.now a.at (step_line a.from a.seconds) size c.has_room.ensures c.if-not-has_room.false in
-    omega arith
-
-pub spell-k-requires : goal.spell-k-requires
-spell-k-requires c =
-    let a = c.args in
-    let size = step_size a.from a.seconds c.places-a.ensures.value c.places-b.ensures.value in
-    let room = room_found a.buf.now a.at (step_line a.from a.seconds) size c.has_room.ensures c.if-not-has_room.false in
-    record { k_value = c.places-b.ensures.value; k_in_bounds = omega arith }
-
-pub put_byte-requires : goal.put_byte-requires
-put_byte-requires c =
-    let a = c.args in
-    let size = step_size a.from a.seconds c.places-a.ensures.value c.places-b.ensures.value in
-    let room = room_found a.buf.now a.at (step_line a.from a.seconds) size c.has_room.ensures c.if-not-has_room.false in
-    omega arith
-
-pub returns : goal.returns
-returns c =
+pub returns-clause-buf_after : goal.returns-clause-buf_after
+returns-clause-buf_after c =
     let a = c.args in
     let yes = c.if-not-has_room.false in
     let size = step_size a.from a.seconds c.places-a.ensures.value c.places-b.ensures.value in
@@ -51,4 +18,4 @@ returns c =
     let p₂ = put_then p₁ (32 ∷ []) c.put_byte-j.ensures.buf_after c.put_byte-j.ensures.value (omega arith) in
     let p₃ = put_then p₂ (decimal_text a.seconds) c.spell-k.ensures.buf_after c.spell-k.ensures.value (omega arith) in
     let p₄ = put_then p₃ (10 ∷ []) c.put_byte.ensures.buf_after c.put_byte.ensures.value (omega arith) in
-    record { value = (with_room a.buf.now a.at (step_line a.from a.seconds) size c.has_room.ensures yes (put_as (step_made a.from a.seconds) p₄)).0; buf_after = (with_room a.buf.now a.at (step_line a.from a.seconds) size c.has_room.ensures yes (put_as (step_made a.from a.seconds) p₄)).1 }
+    (with_room a.buf.now a.at (step_line a.from a.seconds) size c.has_room.ensures yes (put_as (step_made a.from a.seconds) p₄)).1

@@ -1,38 +1,21 @@
 -- `replay_text::words::put_nodes` meets its contract: the text of those so far is the invariant. Assumes nothing.
-use Prim.Native.Nat.{ℕ, ◌-◌}
-use mathlib.Core.Path.{◌≡◌}
 use native.Mathlib.Omega.{arith}
 use Rattle.listing.proofs.Pasting.{put_begun, put_then, put_as, put_same}
 use Rattle.model.specs.Blank.{node_state_at}
 use Rattle.replay_text.specs.Lines.{node_text, nodes_text}
-use Rattle.replay_text.proofs.Pieces.{node_length, nodes_length, nodes_more, put_all}
+use Rattle.replay_text.proofs.Pieces.{node_length, nodes_length, nodes_more}
 use Rattle.replay_text.proofs.words.put_nodes.Goals as goal
 
 pub loop-i-init : goal.loop-i-init
 unfolding nodes_text
-loop-i-init c = (omega arith, put_begun (omega (arith, c.requires.n_in_bounds)))
-
-pub offset_bounds-s-i : goal.offset_bounds-s-i
-offset_bounds-s-i c = omega (arith, c.requires.n_bound)
-
-pub bounds-s-i : goal.bounds-s-i
-bounds-s-i c = omega (arith, c.requires.n_bound)
+loop-i-init c = put_begun (omega (arith, c.requires.n_in_bounds))
 
 pub put_node-o-requires : goal.put_node-o-requires
-put_node-o-requires c = omega (arith, c.requires.n_in_bounds, c.loop-i.invariant.1.place, nodes_length c.loop-i.i c.args.s, put_same c.loop-i.invariant.1)
-
-pub overflow_add-i : goal.overflow_add-i
-overflow_add-i c = omega (arith, c.requires.n_bound)
+put_node-o-requires c = omega (arith, c.loop-i.invariant.place, nodes_length c.loop-i.i c.args.s.now, put_same c.loop-i.invariant)
 
 pub loop-i-preserved : goal.loop-i-preserved
 loop-i-preserved c =
-    let s = c.args.s in
+    let s = c.args.s.now in
     let i = c.loop-i.i in
-    let inv = c.loop-i.invariant.1 in
-    (omega arith, put_as (nodes_more i s) (put_then inv (node_text (node_state_at s i)) c.put_node-o.ensures.out_after c.put_node-o.ensures.value (omega (arith, c.requires.n_in_bounds, inv.place, nodes_length i s, node_length (node_state_at s i), put_same inv, c.put_node-o.ensures.value))))
-
-pub shape_of-out : goal.shape_of-out
-shape_of-out c = put_same c.loop-i.invariant.1
-
-pub returns : goal.returns
-returns c = let e : c.loop-i.i ≡ c.args.n = omega (arith, c.loop-i.invariant.0) in record { value = (put_all (λ (k : ℕ). nodes_text k c.args.s) e c.loop-i.invariant.1).0; out_after = (put_all (λ (k : ℕ). nodes_text k c.args.s) e c.loop-i.invariant.1).1 }
+    let inv = c.loop-i.invariant in
+    put_as (nodes_more i s) (put_then inv (node_text (node_state_at s i)) c.put_node-o.ensures.out_after c.put_node-o.ensures.value (omega (arith, inv.place, nodes_length i s, node_length (node_state_at s i), put_same inv, c.put_node-o.ensures.value)))

@@ -1,10 +1,6 @@
-use Prim.Native.Nat.{◌-◌, ◌≤◌}
 use Rattle.listing.proofs.Pasting.{Put}
 use Rattle.replay_text.specs.Lines.{nodes_text}
 use Rattle.replay_text.proofs.words.put_nodes.Given as goal
 
 abbrev pub invariant-loop-i : goal.invariant-loop-i
-invariant-loop-i l = (l.i ≤ l.n) × Put l.initial.out l.at (nodes_text l.i l.s) l.out l.o
-
-abbrev pub decreases-loop-i : goal.decreases-loop-i
-decreases-loop-i l = l.n - l.i
+invariant-loop-i l = Put l.initial.out l.at (nodes_text l.i l.s) l.out l.o

@@ -1,10 +1,5 @@
-use Prim.Native.Nat.{◌-◌}
-use Rattle.model.proofs.Loops.{Ran}
-use Rattle.run_candidates.specs.Next.{clock_turn}
+use Rattle.clock.specs.Steps.{clock_candidate}
 use Rattle.run_candidates.proofs.next.next_clock.Given as goal
 
-abbrev pub invariant-loop-i : goal.invariant-loop-i
-invariant-loop-i l = Ran l.n (clock_turn l.seconds l.clock) l.initial.smallest l.i l.smallest
-
-abbrev pub decreases-loop-i : goal.decreases-loop-i
-decreases-loop-i l = l.n - l.i
+abbrev pub ghost-smallest : goal.ghost-smallest
+ghost-smallest a = λ at. clock_candidate at a.candidate.0.now

@@ -1,10 +1,7 @@
-use Prim.Native.Nat.{◌-◌}
 use Rattle.model.proofs.Loops.{Ran}
 use Rattle.run_candidates.specs.Next.{level_turn}
 use Rattle.run_candidates.proofs.next.next_level.Given as goal
 
 abbrev pub invariant-loop-i : goal.invariant-loop-i
-invariant-loop-i l = Ran l.n (level_turn l.tanks l.targets l.nodes l.numbers l.overflows l.heads l.demands) l.initial.smallest l.i l.smallest
-
-abbrev pub decreases-loop-i : goal.decreases-loop-i
-decreases-loop-i l = l.n - l.i
+invariant-loop-i l =
+    Ran l.fn.l.count (level_turn l.fn.l.tanks l.fn.l.targets l.fn.t.at.nodes l.fn.t.numbers l.fn.t.overflows l.fn.heads l.fn.demands) l.initial.smallest l.i l.smallest

@@ -1,10 +1,7 @@
-use Prim.Native.Nat.{◌-◌}
 use Rattle.model.proofs.Loops.{Ran}
 use Rattle.run_closing.specs.Closing.{group_closed}
 use Rattle.run_closing.proofs.closing.close_links.Given as goal
 
 abbrev pub invariant-loop-k : goal.invariant-loop-k
-invariant-loop-k l = Ran l.n (group_closed l.nodes l.numbers l.overflows l.begins l.middles l.links l.heads l.flows) l.initial.statuses l.k l.statuses
-
-abbrev pub decreases-loop-k : goal.decreases-loop-k
-decreases-loop-k l = l.n - l.k
+invariant-loop-k l =
+    Ran l.t.at.count (group_closed l.t.at.nodes l.t.numbers l.t.overflows l.g.begins l.g.middles l.g.links l.heads l.flows) l.initial.statuses l.k l.statuses

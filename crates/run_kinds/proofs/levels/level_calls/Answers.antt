@@ -1,51 +1,27 @@
--- `run_kinds::levels::level_calls` meets its contract: the levels of the controls passed are listed. Assumes nothing.
-use Prim.Native.Nat.{ℕ, ◌+◌, ◌-◌, ◌≤◌}
-use mathlib.Core.Path.{ap}
-use native.Mathlib.Omega.{arith}
-use lib.Dec.{ltb}
-use lib.ListN.{get_or}
-use Rattle.model.specs.Blank.{blank_control}
+-- `run_kinds::levels::level_calls` meets its contract. The invariant: the levels of the controls passed are listed. Assumes nothing.
+use mathlib.Core.Path.{sym, ◌∙◌}
 use borrow.Author.Rules.{rules}
-use Rattle.run_kinds.proofs.Standing.{levels_few, list_none, list_put, list_all}
+use native.Mathlib.Omega.{arith}
+use Rattle.run_kinds.proofs.Standing.{list_none, list_pass, list_untanked, list_put, numbered}
 use Rattle.run_kinds.proofs.levels.level_calls.Goals as goal
+use Rattle.run_kinds.proofs.levels.level_calls.Goals.{in-Some+in-Some-tank_number, in-Some+in_default-tank_number, in_default}
 
 pub loop-i-init : goal.loop-i-init
-loop-i-init c = list_none c.no_tanks-tanks.ensures c.no_targets-targets.ensures
+loop-i-init c = list_none (search rules) (search rules)
 
-pub offset_bounds-controls-i : goal.offset_bounds-controls-i
-offset_bounds-controls-i c = omega (arith, c.requires.n_bound)
-
-pub bounds-controls-i : goal.bounds-controls-i
-bounds-controls-i c = omega (arith, c.requires.n_bound)
-
-pub tank_number-k-requires : goal.tank_number-k-requires
-tank_number-k-requires c = c.requires.tanks_inside
-
-pub overflow_cast-tanks : goal.overflow_cast-tanks
-overflow_cast-tanks c = omega (arith, c.tank_number-k.ensures.most, c.requires.tanks_inside.most)
-
-pub offset_bounds-tanks-count : goal.offset_bounds-tanks-count
-offset_bounds-tanks-count c = omega (arith, c.requires.n_bound, c.loop-i.invariant.few)
-
-pub bounds-tanks-count : goal.bounds-tanks-count
-bounds-tanks-count c = omega (arith, c.requires.n_bound, c.loop-i.invariant.few, c.loop-i.invariant.long)
-
-pub offset_bounds-targets-count : goal.offset_bounds-targets-count
-offset_bounds-targets-count c = omega (arith, c.requires.n_bound, c.loop-i.invariant.few)
-
-pub bounds-targets-count : goal.bounds-targets-count
-bounds-targets-count c = omega (arith, c.requires.n_bound, c.loop-i.invariant.few, c.loop-i.invariant.wide)
-
-pub overflow_add-count : goal.overflow_add-count
-overflow_add-count c =
-    let few : c.level_count-count.result ≤ 1 = let a = c.args in
-    rw c.level_count-count.ensures (levels_few (ltb c.tank_number-k.result a.tank_count) (get_or a.controls c.loop-i.i blank_control).condition) in
-    omega (arith, c.requires.n_bound, c.loop-i.invariant.few, few)
+pub overflow_cast-numbers : goal.overflow_cast-numbers
+overflow_cast-numbers c = omega (arith, c.args.tanks.now.inside.most, ((numbered c.tank_number.ensures.most _ c.tank_number.ensures.value).found _ c.in-Some-tank_number.is).0)
 
 pub loop-i-preserved : goal.loop-i-preserved
 loop-i-preserved c =
-    list_put c.loop-i.invariant c.requires.n_bound (search rules) (rw (← c.watched-w.ensures) c.tank_number-k.ensures) c.condition_target.ensures
-    (ap (λ (k : ℕ). c.loop-i.count + k) c.level_count-count.ensures)
-
-pub returns : goal.returns
-returns c = list_all c.loop-i.invariant c.loop-i-test.false
+    let h = c.loop-i.invariant in
+    elim c.match-level_of.branch [
+      | in-Some+in-Some-tank_number w ↦
+          rw (w.numbers-is, w.targets-is, w.count-is)
+          (list_put h (omega (arith, c.requires, c.loop-i-test.true)) (sym c.level_of.ensures ∙ w.in-Some.is)
+          (rw (← w.in-Some-tank_number.is) (numbered w.tank_number.ensures.most _ w.tank_number.ensures.value)))
+      | in-Some+in_default-tank_number w ↦
+          rw (w.numbers-is, w.targets-is, w.count-is)
+          (list_untanked h (sym c.level_of.ensures ∙ w.in-Some.is) (rw (← w.in_default-tank_number.is) (numbered w.tank_number.ensures.most _ w.tank_number.ensures.value)))
+      | in_default w ↦ rw (w.numbers-is, w.targets-is, w.count-is) (list_pass h (sym c.level_of.ensures ∙ w.in_default.is))
+    ]

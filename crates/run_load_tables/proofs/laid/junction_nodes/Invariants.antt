@@ -1,12 +1,5 @@
-use Prim.Native.Nat.{◌-◌, ◌≤◌}
-use mathlib.Core.Path.{◌≡◌}
-use lib.ListN.{length}
-use Rattle.run_tables.specs.Held.{Pushed}
-use Rattle.run_load_tables.specs.Laid.{junction_in}
+use Rattle.model.specs.Nodes.{is_junction}
 use Rattle.run_load_tables.proofs.laid.junction_nodes.Given as goal
 
-abbrev pub invariant-loop-i : goal.invariant-loop-i
-invariant-loop-i l = (l.i ≤ l.n) × (length l.nodes ≡ 256) × Pushed (junction_in l.table) l.i l.nodes l.count
-
-abbrev pub decreases-loop-i : goal.decreases-loop-i
-decreases-loop-i l = l.n - l.i
+abbrev pub ghost-nodes_where : goal.ghost-nodes_where
+ghost-nodes_where a = is_junction

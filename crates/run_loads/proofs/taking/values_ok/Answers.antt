@@ -1,24 +1,17 @@
--- `run_loads::taking::values_ok` meets its contract. Assumes nothing.
+-- `run_loads::taking::values_ok` meets its contract. Each number of the range is judged. Assumes nothing.
 use lib.Ieee.{of_bits}
+use mathlib.Core.Path.{◌∙◌}
+use Rattle.std.proofs.Common.{arith, rules, tests}
+use Rattle.std.proofs.lemmas.Iterator.{YieldsList-from_range}
+use Rattle.std.proofs.lemmas.Iterator.Search.{all_from_yields_List}
 use Rattle.number.specs.Constants.{decimal}
-use Prim.Native.Nat.{◌-◌}
-use mathlib.Core.Path.{refl, sym}
-use Rattle.model.proofs.Loops.{held_begun, held_turned, held_ended, held_failed}
 use Rattle.run_loads.specs.Values.{value_ok, values_ok}
-use borrow.Author.Rules.{rules}
+use Rattle.run_loads.proofs.Below.{below}
 use Rattle.run_loads.proofs.taking.values_ok.Goals as goal
 
-pub loop-k-init : goal.loop-k-init
-loop-k-init c = held_begun
-
-pub returns-then-not-within : goal.returns-then-not-within
-unfolding values_ok decimal of_bits
-returns-then-not-within c = sym (held_failed _ (value_ok c.args.words.now) c.loop-k.k (search rules) (rw (← c.value_at.ensures, ← c.within.ensures) c.if-not-within.true))
-
-pub loop-k-preserved : goal.loop-k-preserved
-unfolding decimal of_bits
-loop-k-preserved c = held_turned c.loop-k.invariant (search rules) (rw (← c.value_at.ensures, ← c.within.ensures) c.if-not-within.false)
-
 pub returns : goal.returns
-unfolding values_ok
-returns c = sym (held_ended c.loop-k.invariant c.loop-k-test.false refl)
+unfolding values_ok decimal of_bits
+returns c =
+    let n = c.args.count in
+    all_from_yields_List (value_ok c.args.words.now) _ _ c.all.result c.all.ensures.ran (YieldsList-from_range 0 n n (cc) (omega arith)) (λ x b q k. search (rules, tests))
+    ∙ below n (value_ok c.args.words.now)

@@ -1,17 +1,7 @@
 -- `run_patterns::filling::copy_demands` meets its contract. Assumes nothing.
-use Prim.Native.Nat.{◌-◌}
-use mathlib.Core.Path.{refl}
-use borrow.Author.Rules.{rules}
-use Rattle.model.proofs.Loops.{begun, turned, ended}
-use Rattle.run_patterns.specs.Filling.{demands_copied}
+use native.Mathlib.Omega.{arith}
+use Rattle.run_patterns.proofs.Copied.{copied_is}
 use Rattle.run_patterns.proofs.filling.copy_demands.Goals as goal
 
-pub loop-i-init : goal.loop-i-init
-loop-i-init c = begun
-
-pub loop-i-preserved : goal.loop-i-preserved
-loop-i-preserved c = turned c.loop-i.invariant (search rules) refl
-
 pub returns : goal.returns
-unfolding demands_copied
-returns c = ended c.loop-i.invariant c.loop-i-test.false refl
+returns c = rw c.copy_from_slice.ensures.after (copied_is c.args.n c.args.demands.now c.args.demand_flows.now (omega arith) (omega arith))

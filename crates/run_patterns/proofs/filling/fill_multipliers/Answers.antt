@@ -1,10 +1,8 @@
 -- `run_patterns::filling::fill_multipliers` meets its contract. Assumes nothing.
-use Prim.Native.Nat.{◌-◌}
 use mathlib.Core.List.{List}
 use mathlib.Core.Path.{refl, ap}
 use lib.ListN.{set}
 use lib.Ieee.{Float, of_bits}
-use borrow.Author.Rules.{rules}
 use Rattle.model.proofs.Loops.{begun, turned, ended}
 use Rattle.number.specs.Constants.{decimal}
 use Rattle.run_patterns.specs.Filling.{multipliers_filled}
@@ -13,11 +11,8 @@ use Rattle.run_patterns.proofs.filling.fill_multipliers.Goals as goal
 pub loop-k-init : goal.loop-k-init
 loop-k-init c = begun
 
-pub pattern_multiplier-requires : goal.pattern_multiplier-requires
-pattern_multiplier-requires c = (search rules)
-
 pub loop-k-preserved : goal.loop-k-preserved
-loop-k-preserved c = turned c.loop-k.invariant (search rules) (rw c.pattern_multiplier.ensures)
+loop-k-preserved c = turned c.loop-k.invariant c.loop-k-test.true (rw c.pattern_multiplier.ensures)
 
 pub returns : goal.returns
 unfolding multipliers_filled decimal of_bits

@@ -1,47 +1,20 @@
--- `run_sources::demands::demand_table` meets its contract. The invariant: the counts, bases and places of the nodes passed are stored. Assumes nothing.
-use Prim.Native.Nat.{◌-◌}
-use mathlib.Core.List.{List}
-use mathlib.Core.Path.{ap, ◌∙◌}
+-- `run_sources::demands::demand_table` meets its contract. The invariants: the counts, bases and places of the nodes passed are stored, and of the
+-- demands passed of this one. Assumes nothing.
+use mathlib.Core.Path.{ap}
 use native.Mathlib.Omega.{arith}
-use lib.ListN.{length}
 use Rattle.model.specs.declared.node.Demand.{Demand}
-use Rattle.run_state.proofs.Filled.{fill_none, fill}
-use Rattle.state_patterns.specs.Patterns.{or_default}
-use Rattle.run_sources.proofs.Laying.{demand_there, fill_four, demands_laid}
-use Rattle.run_sources.specs.Sources.{place_of, listed}
+use Rattle.run_state.proofs.Filled.{fill}
+use Rattle.run_sources.proofs.Laying.{entry_there, place_there, far, demands_laid}
 use Rattle.run_sources.proofs.demands.demand_table.Goals as goal
 
-pub loop-i-init : goal.loop-i-init
-loop-i-init c = (fill_none c.no_counts-counts.ensures, (fill_none c.no_bases-bases.ensures, fill_none c.no_places-patterns.ensures))
+pub loop-j-preserved : goal.loop-j-preserved
+loop-j-preserved c =
+    let h = c.loop-j.invariant in
+    let e = entry_there c.args.nodes.now c.loop-i.i c.loop-j.j c.four_of-many.ensures.entries c.demands_of.ensures c.loop-j-test.true in
+    record {
+      bases = far (fill h.bases (omega (arith, c.requires)) (ap (λ (d : Demand). d.base) e)) (omega arith);
+      places = far (fill h.places (omega (arith, c.requires)) (place_there c.args.default c.place_of.ensures c.or.ensures e)) (omega arith);
+    }
 
-pub offset_bounds-table-i : goal.offset_bounds-table-i
-offset_bounds-table-i c = omega (arith, c.requires)
-
-pub bounds-table-i : goal.bounds-table-i
-bounds-table-i c = omega (arith, c.requires)
-
-pub offset_bounds-counts-i : goal.offset_bounds-counts-i
-offset_bounds-counts-i c = omega (arith, c.requires)
-
-pub bounds-counts-i : goal.bounds-counts-i
-bounds-counts-i c = omega (arith, c.requires)
-
-pub put_demands-requires : goal.put_demands-requires
-put_demands-requires c = omega (arith, c.requires)
-
-pub loop-i-preserved : goal.loop-i-preserved
-loop-i-preserved c =
-    let start = c in
-    let l = c.loop-i in
-    let ds = c in
-    let table = start.args.table in
-    let i = l.i in (
-      fill l.invariant.0 (omega (arith, start.requires)) (c.how_many.ensures ∙ ap (λ (l : List Demand). length l) ds.demands_of-demands.ensures),
-      (
-        fill_four table i (listed ds.demands_of-demands.result) (λ (d : Demand). d.base) l.invariant.1.0 (omega (arith, start.requires)) (λ j k. ap (λ (d : Demand). d.base) (demand_there table i j k)) ds.demands_of-demands.ensures c.put_demands.ensures.bases_after,
-        fill_four table i (listed ds.demands_of-demands.result) (λ (d : Demand). place_of (or_default start.args.default d.pattern)) l.invariant.1.1 (omega (arith, start.requires)) (λ j k. ap (λ (d : Demand). place_of (or_default start.args.default d.pattern)) (demand_there table i j k)) ds.demands_of-demands.ensures c.put_demands.ensures.places_after,
-      ),
-    )
-
-pub returns : goal.returns
-returns c = demands_laid c.loop-i.invariant.0 c.loop-i.invariant.1.0 c.loop-i.invariant.1.1 c.loop-i-test.false
+pub returns-clause-laid : goal.returns-clause-laid
+returns-clause-laid c = let h = c.loop-i.invariant in demands_laid h.counts h.bases h.places c.loop-i-test.false

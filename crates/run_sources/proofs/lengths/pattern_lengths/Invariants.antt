@@ -1,4 +1,3 @@
-use Prim.Native.Nat.{◌-◌}
 use lib.ListN.{get_or}
 use Rattle.run_state.proofs.Filled.{Filled}
 use Rattle.run_sources.specs.Lengths.{length_word}
@@ -6,6 +5,3 @@ use Rattle.run_sources.proofs.lengths.pattern_lengths.Given as goal
 
 abbrev pub invariant-loop-k : goal.invariant-loop-k
 invariant-loop-k l = Filled 0 32 (λ j. length_word (get_or l.lengths j 0)) l.k l.words
-
-abbrev pub decreases-loop-k : goal.decreases-loop-k
-decreases-loop-k l = 32 - l.k

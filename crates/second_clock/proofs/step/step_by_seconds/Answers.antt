@@ -37,8 +37,8 @@ walk-length-requires c =
     let t = tables_fit a.p (tables_of a.p a.s (sym c.in_order.ensures ∙ c.if-not-in_order.false)) in
     record { times_fit = subst TimesFit (sym c.times_of.ensures) (times_fit a.p t); count_bound = t.few.controls }
 
-pub moved_on-state-requires : goal.moved_on-state-requires
-moved_on-state-requires c =
+pub moved_on-requires : goal.moved_on-requires
+moved_on-requires c =
     let a = c.args in
     room a.p a.s (sym c.in_order.ensures ∙ c.if-not-in_order.false) _
     (walk_of a.p _ a.s.clock.instant _ c.times_of.ensures c.walk-length.ensures)
@@ -53,5 +53,5 @@ returns c =
       ← c.second_applies.ensures,
       c.if-not-second_applies.false,
       ← walk_of a.p _ a.s.clock.instant _ c.times_of.ensures c.walk-length.ensures,
-      c.moved_on-state.ensures,
+      c.moved_on.ensures,
     )

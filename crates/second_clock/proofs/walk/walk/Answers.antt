@@ -1,5 +1,4 @@
 -- `second_clock::walk::walk` meets its contract. The invariant: what is left of the walk gives the whole. Assumes nothing.
-use Prim.Native.Nat.{◌-◌}
 use mathlib.Core.Path.{◌∙◌}
 use native.Mathlib.Omega.{arith}
 use Rattle.second_clock.proofs.Walks.{walk_by_is, going_begun, going_stops, going_turned, going_ended, stop_told}
@@ -33,7 +32,7 @@ returns-then-stops_then c =
     let l = c.loop-instant in
     let told = stop_told a.o w.times w.clocks a.count a.from l.instant l.seconds l.invariant.at c.any_calls-called.ensures c.stops_then.ensures in
     going_stops l.invariant c.loop-instant-test.true told c.if-stops_then.true
-    ∙ walk_by_is a.o a.controls a.count a.from w c.requires.times_fit c.requires.count_bound c.awaited_by-awaited.ensures
+    ∙ walk_by_is a.o a.controls.now a.count a.from w c.requires.times_fit c.requires.count_bound c.awaited_by-awaited.ensures
 
 pub loop-instant-preserved : goal.loop-instant-preserved
 loop-instant-preserved c =
@@ -47,4 +46,4 @@ pub returns : goal.returns
 returns c =
     let a = c.args in
     going_ended c.loop-instant.invariant c.loop-instant-test.false
-    ∙ walk_by_is a.o a.controls a.count a.from c.awaited_by-awaited.result c.requires.times_fit c.requires.count_bound c.awaited_by-awaited.ensures
+    ∙ walk_by_is a.o a.controls.now a.count a.from c.awaited_by-awaited.result c.requires.times_fit c.requires.count_bound c.awaited_by-awaited.ensures

@@ -1,5 +1,5 @@
 -- `stops_ahead::ahead::fill` meets its contract. The invariant: the stops written so far and those above the last of them are all. Assumes nothing.
-use Prim.Native.Nat.{◌-◌, ◌<◌}
+use Prim.Native.Nat.{◌<◌}
 use native.Mathlib.Omega.{arith}
 use mathlib.Core.Path.{ap}
 use lib.ListN.{length, length-set}

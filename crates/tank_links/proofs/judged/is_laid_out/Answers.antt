@@ -1,95 +1,34 @@
 -- `tank_links::judged::is_laid_out` meets its contract: its own table has the places and entries that the definition asks for. Assumes nothing.
-use Prim.Native.Nat.{ℕ}
-use mathlib.Core.Path.{sym, ap, ◌∙◌}
-use native.Mathlib.Omega.{arith}
-use lib.ListN.{length, length-replicate}
-use Rattle.tank_links.proofs.Judging.{Own, own, first_fails, second_fails, third_tells}
+use mathlib.Core.Path.{refl, sym, ◌∙◌}
+use mathlib.Core.Bool.{true≢false}
+use Rattle.tank_links.proofs.Judging.{Own, own}
+use Rattle.tank_links.proofs.judged.is_laid_out.Goals.{After-lay_out-n, then-starts_with, else-starts_with}
 use Rattle.tank_links.proofs.judged.is_laid_out.Goals as goal
 
-pub offset_bounds-own_begins-n : goal.offset_bounds-own_begins-n
-offset_bounds-own_begins-n c =
-    let laid : Own c.args.p c.lay_out-n.new.begins c.lay_out-n.new.middles c.lay_out-n.new.links c.lay_out-n.result = let e = c.lay_out-n.ensures in
-    own c.args.p c.requires _ _ _ (ap length c.no_places-own_begins.ensures ∙ length-replicate {A = ℕ} 257 0) (ap length c.no_middles-own_middles.ensures ∙ length-replicate {A = ℕ} 256 0) (ap length c.no_entries-own_links.ensures ∙ length-replicate {A = ℕ} 768 0) e.value e.begins_after e.middles_after e.links_after in
-    omega (arith, (laid).few)
+laid : (c : After-lay_out-n) → Own c.args.p c.lay_out-n.new.groups.begins c.lay_out-n.new.groups.middles c.lay_out-n.new.groups.links c.lay_out-n.result
+laid c =
+    let z = c.empty-own.ensures in
+    let e = c.lay_out-n.ensures in own c.args.p c.requires z.begins z.middles z.links e.value e.begins_after e.middles_after e.links_after
 
-pub bounds-own_begins-n : goal.bounds-own_begins-n
-bounds-own_begins-n c =
-    let laid : Own c.args.p c.lay_out-n.new.begins c.lay_out-n.new.middles c.lay_out-n.new.links c.lay_out-n.result = let e = c.lay_out-n.ensures in
-    own c.args.p c.requires _ _ _ (ap length c.no_places-own_begins.ensures ∙ length-replicate {A = ℕ} 257 0) (ap length c.no_middles-own_middles.ensures ∙ length-replicate {A = ℕ} 256 0) (ap length c.no_entries-own_links.ensures ∙ length-replicate {A = ℕ} 768 0) e.value e.begins_after e.middles_after e.links_after in
-    omega (arith, (laid).few)
+pub shared_ref_as_front-starts_with-then-starts_with-2 : goal.shared_ref_as_front-starts_with-then-starts_with-2
+shared_ref_as_front-starts_with-then-starts_with-2 c = (laid (goal.at.shared_ref_as_front-starts_with-then-starts_with-2 c).After-lay_out-n).fits
 
-pub overflow_cast-count : goal.overflow_cast-count
-overflow_cast-count c =
-    let laid : Own c.args.p c.lay_out-n.new.begins c.lay_out-n.new.middles c.lay_out-n.new.links c.lay_out-n.result = let e = c.lay_out-n.ensures in
-    own c.args.p c.requires _ _ _ (ap length c.no_places-own_begins.ensures ∙ length-replicate {A = ℕ} 257 0) (ap length c.no_middles-own_middles.ensures ∙ length-replicate {A = ℕ} 256 0) (ap length c.no_entries-own_links.ensures ∙ length-replicate {A = ℕ} 768 0) e.value e.begins_after e.middles_after e.links_after in
-    omega (arith, (laid).ends, (laid).fits)
+pub returns-then-starts_with-2 : goal.returns-then-starts_with-2
+returns-then-starts_with-2 c =
+    let g = c.args.groups.now in
+    let tells = (laid (goal.at.returns-then-starts_with-2 c).After-lay_out-n).tells g.begins g.middles g.links in
+    elim c.if-starts_with.branch [
+      | then-starts_with w ↦
+          rw (← tells, ← c.starts_with.ensures.value, ← w.starts_with-then-starts_with.ensures.value, w.if-starts_with.true, ← w.value-is, c.if-starts_with-2.true)
+          c.starts_with-then-starts_with-2.ensures.value
+      | else-starts_with w ↦ absurd (true≢false (sym c.if-starts_with-2.true ∙ w.value-is ∙ w.if-starts_with.false))
+    ]
 
-pub slice_bounds-same-end-2 : goal.slice_bounds-same-end-2
-slice_bounds-same-end-2 c =
-    let laid : Own c.args.p c.lay_out-n.new.begins c.lay_out-n.new.middles c.lay_out-n.new.links c.lay_out-n.result = let e = c.lay_out-n.ensures in
-    own c.args.p c.requires _ _ _ (ap length c.no_places-own_begins.ensures ∙ length-replicate {A = ℕ} 257 0) (ap length c.no_middles-own_middles.ensures ∙ length-replicate {A = ℕ} 256 0) (ap length c.no_entries-own_links.ensures ∙ length-replicate {A = ℕ} 768 0) e.value e.begins_after e.middles_after e.links_after in
-    sym (laid).wide
-
-pub overflow_add-n : goal.overflow_add-n
-overflow_add-n c =
-    let laid : Own c.args.p c.lay_out-n.new.begins c.lay_out-n.new.middles c.lay_out-n.new.links c.lay_out-n.result = let e = c.lay_out-n.ensures in
-    own c.args.p c.requires _ _ _ (ap length c.no_places-own_begins.ensures ∙ length-replicate {A = ℕ} 257 0) (ap length c.no_middles-own_middles.ensures ∙ length-replicate {A = ℕ} 256 0) (ap length c.no_entries-own_links.ensures ∙ length-replicate {A = ℕ} 768 0) e.value e.begins_after e.middles_after e.links_after in
-    omega (arith, (laid).few)
-
-pub same-requires : goal.same-requires
-same-requires c =
-    let laid : Own c.args.p c.lay_out-n.new.begins c.lay_out-n.new.middles c.lay_out-n.new.links c.lay_out-n.result = let e = c.lay_out-n.ensures in
-    own c.args.p c.requires _ _ _ (ap length c.no_places-own_begins.ensures ∙ length-replicate {A = ℕ} 257 0) (ap length c.no_middles-own_middles.ensures ∙ length-replicate {A = ℕ} 256 0) (ap length c.no_entries-own_links.ensures ∙ length-replicate {A = ℕ} 768 0) e.value e.begins_after e.middles_after e.links_after in
-    let q = laid in omega (arith, q.few, q.wide)
-
-pub returns-then-not-same : goal.returns-then-not-same
-returns-then-not-same c =
-    let laid : Own c.args.p c.lay_out-n.new.begins c.lay_out-n.new.middles c.lay_out-n.new.links c.lay_out-n.result = let e = c.lay_out-n.ensures in
-    own c.args.p c.requires _ _ _ (ap length c.no_places-own_begins.ensures ∙ length-replicate {A = ℕ} 257 0) (ap length c.no_middles-own_middles.ensures ∙ length-replicate {A = ℕ} 256 0) (ap length c.no_entries-own_links.ensures ∙ length-replicate {A = ℕ} 768 0) e.value e.begins_after e.middles_after e.links_after in
-    let a = c.args in
-    first_fails a.p a.begins.now a.middles.now a.links.now (sym ((laid).first a.begins.now) ∙ sym c.same.ensures ∙ c.if-not-same.true)
-
-pub slice_bounds-same-end-4 : goal.slice_bounds-same-end-4
-slice_bounds-same-end-4 c =
-    let laid : Own c.args.p c.lay_out-n.new.begins c.lay_out-n.new.middles c.lay_out-n.new.links c.lay_out-n.result = let e = c.lay_out-n.ensures in
-    own c.args.p c.requires _ _ _ (ap length c.no_places-own_begins.ensures ∙ length-replicate {A = ℕ} 257 0) (ap length c.no_middles-own_middles.ensures ∙ length-replicate {A = ℕ} 256 0) (ap length c.no_entries-own_links.ensures ∙ length-replicate {A = ℕ} 768 0) e.value e.begins_after e.middles_after e.links_after in
-    sym (laid).long
-
-pub same-requires-2 : goal.same-requires-2
-same-requires-2 c =
-    let laid : Own c.args.p c.lay_out-n.new.begins c.lay_out-n.new.middles c.lay_out-n.new.links c.lay_out-n.result = let e = c.lay_out-n.ensures in
-    own c.args.p c.requires _ _ _ (ap length c.no_places-own_begins.ensures ∙ length-replicate {A = ℕ} 257 0) (ap length c.no_middles-own_middles.ensures ∙ length-replicate {A = ℕ} 256 0) (ap length c.no_entries-own_links.ensures ∙ length-replicate {A = ℕ} 768 0) e.value e.begins_after e.middles_after e.links_after in
-    let q = laid in omega (arith, q.few, q.long)
-
-pub returns-then-not-same-2 : goal.returns-then-not-same-2
-returns-then-not-same-2 c =
-    let laid : Own c.args.p c.lay_out-n.new.begins c.lay_out-n.new.middles c.lay_out-n.new.links c.lay_out-n.result = let e = c.lay_out-n.ensures in
-    own c.args.p c.requires _ _ _ (ap length c.no_places-own_begins.ensures ∙ length-replicate {A = ℕ} 257 0) (ap length c.no_middles-own_middles.ensures ∙ length-replicate {A = ℕ} 256 0) (ap length c.no_entries-own_links.ensures ∙ length-replicate {A = ℕ} 768 0) e.value e.begins_after e.middles_after e.links_after in
-    let a = c.args in
-    let q = laid in
-    second_fails a.p a.begins.now a.middles.now a.links.now
-    (sym (q.first a.begins.now) ∙ sym c.same.ensures ∙ c.if-not-same.false)
-    (sym (q.second a.middles.now) ∙ sym c.same-2.ensures ∙ c.if-not-same-2.true)
-
-pub slice_bounds-same-end-6 : goal.slice_bounds-same-end-6
-slice_bounds-same-end-6 c =
-    let laid : Own c.args.p c.lay_out-n.new.begins c.lay_out-n.new.middles c.lay_out-n.new.links c.lay_out-n.result = let e = c.lay_out-n.ensures in
-    own c.args.p c.requires _ _ _ (ap length c.no_places-own_begins.ensures ∙ length-replicate {A = ℕ} 257 0) (ap length c.no_middles-own_middles.ensures ∙ length-replicate {A = ℕ} 256 0) (ap length c.no_entries-own_links.ensures ∙ length-replicate {A = ℕ} 768 0) e.value e.begins_after e.middles_after e.links_after in
-    sym (laid).room
-
-pub same-requires-3 : goal.same-requires-3
-same-requires-3 c =
-    let laid : Own c.args.p c.lay_out-n.new.begins c.lay_out-n.new.middles c.lay_out-n.new.links c.lay_out-n.result = let e = c.lay_out-n.ensures in
-    own c.args.p c.requires _ _ _ (ap length c.no_places-own_begins.ensures ∙ length-replicate {A = ℕ} 257 0) (ap length c.no_middles-own_middles.ensures ∙ length-replicate {A = ℕ} 256 0) (ap length c.no_entries-own_links.ensures ∙ length-replicate {A = ℕ} 768 0) e.value e.begins_after e.middles_after e.links_after in
-    let q = laid in omega (arith, q.ends, q.fits, q.room)
-
-pub returns : goal.returns
-returns c =
-    let laid : Own c.args.p c.lay_out-n.new.begins c.lay_out-n.new.middles c.lay_out-n.new.links c.lay_out-n.result = let e = c.lay_out-n.ensures in
-    own c.args.p c.requires _ _ _ (ap length c.no_places-own_begins.ensures ∙ length-replicate {A = ℕ} 257 0) (ap length c.no_middles-own_middles.ensures ∙ length-replicate {A = ℕ} 256 0) (ap length c.no_entries-own_links.ensures ∙ length-replicate {A = ℕ} 768 0) e.value e.begins_after e.middles_after e.links_after in
-    let a = c.args in
-    let q = laid in
-    c.same-3.ensures ∙ q.entry a.links.now
-    ∙ third_tells a.p a.begins.now a.middles.now a.links.now
-    (sym (q.first a.begins.now) ∙ sym c.same.ensures ∙ c.if-not-same.false)
-    (sym (q.second a.middles.now) ∙ sym c.same-2.ensures ∙ c.if-not-same-2.false)
+pub returns-else-starts_with-2 : goal.returns-else-starts_with-2
+returns-else-starts_with-2 c =
+    let g = c.args.groups.now in
+    let tells = (laid (goal.at.returns-else-starts_with-2 c).After-lay_out-n).tells g.begins g.middles g.links in
+    elim c.if-starts_with.branch [
+      | then-starts_with w ↦ rw (← tells, ← c.starts_with.ensures.value, ← w.starts_with-then-starts_with.ensures.value, w.if-starts_with.true, ← w.value-is, c.if-starts_with-2.false) refl
+      | else-starts_with w ↦ rw (← tells, ← c.starts_with.ensures.value, w.if-starts_with.false) c.if-starts_with-2.false
+    ]

@@ -1,9 +1,7 @@
-use Prim.Native.Nat.{◌-◌}
 use Rattle.tank_links.proofs.Laying.{Laying, on_chain}
 use Rattle.tank_links.proofs.laid.lay_groups.Given as goal
 
 abbrev pub invariant-loop-k : goal.invariant-loop-k
-invariant-loop-k l = Laying (on_chain l.into l.next_into l.nodes) (on_chain l.out l.next_out l.nodes) l.n l.initial.begins l.initial.middles l.initial.links l.k l.at l.begins l.middles l.links
-
-abbrev pub decreases-loop-k : goal.decreases-loop-k
-decreases-loop-k l = l.n - l.k
+invariant-loop-k l =
+    Laying (on_chain l.into.first l.into.next l.tanks.nodes) (on_chain l.out.first l.out.next l.tanks.nodes) l.tanks.count
+    l.initial.groups.begins l.initial.groups.middles l.initial.groups.links l.k l.at l.groups.begins l.groups.middles l.groups.links

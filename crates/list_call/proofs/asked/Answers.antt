@@ -1,8 +1,0 @@
--- `list_call::asked` meets its contract. Assumes nothing.
-use Rattle.list_call.proofs.asked.Goals as goal
-
-pub returns-in-Truth : goal.returns-in-Truth
-returns-in-Truth c = rw c.in-Truth.is
-
-pub returns-in-Refused : goal.returns-in-Refused
-returns-in-Refused c = rw c.in-Refused.is

@@ -1,8 +1,0 @@
--- `model::project::blank_node` meets its contract. NaN is what 0.0 / 0.0 gives. Assumes nothing.
-use mathlib.Core.Path.{refl}
-use lib.Ieee.{div, of_bits}
-use Rattle.model.proofs.project.blank_node.Goals as goal
-
-pub returns : goal.returns
-unfolding div of_bits
-returns c = refl
