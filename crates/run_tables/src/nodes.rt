@@ -2,17 +2,16 @@
 ghost use Rattle.std.specs.Prelude.{◌≡◌, ◌≤◌, Bool, get_or};
 ghost use Rattle.model.specs.Blank.{blank_node};
 ghost use Rattle.model.specs.declared.node.Node.{Node};
-ghost use Rattle.run_tables.specs.Held.{Distinct, Pushed, TanksInside};
+ghost use Rattle.run_tables.specs.Held.{Pushed, TanksInside};
 
 use model::*;
 
-// Nodes of a table, in order and each once; what stands past the count is free.
+// Nodes of a table; what stands past the count is free.
 #[derive(Clone, Copy)]
 pub struct NodeList {
     pub count: usize,
     pub nodes: [u32; 256],
     pub ghost inside: { TanksInside nodes count },
-    pub ghost distinct: { Distinct nodes count },
 }
 
 // Those of the first n nodes of a table of which a test holds. An index is pushed without a branch: it is written at the count, which moves on where the

@@ -1,6 +1,7 @@
 // The table laid out.
 ghost use Rattle.std.specs.Prelude.{◌≡◌, ◌≤◌, suc, length, replicate};
 ghost use Rattle.std.proofs.lemmas.List.Edits.{sets};
+ghost use Rattle.run_tables.specs.Held.{Distinct};
 ghost use Rattle.run_tables.specs.Tanks.{tank_nodes};
 ghost use Rattle.tables.specs.Fit.{TablesFit};
 ghost use Rattle.tank_links.specs.Groups.{joined, listed, begins_of, middles_of, entries_of};
@@ -35,7 +36,8 @@ impl LinkGroups {
 
 // The links of a table at tanks that are given. What lies past the places and entries stays as it was.
 pub fn lay_groups(table: &[Link; 384], count: usize, tanks: &NodeList, groups: &mut LinkGroups)
-    requires { EndsInside table.now count }
+    requires ends_inside { EndsInside table.now count }
+    requires distinct { Distinct tanks.now.nodes tanks.now.count }
     ensures begins_after { groups.new.begins ≡ sets groups.old.begins 0 (listed (begin_in table.now count tanks.now.nodes) (suc tanks.now.count)) }
     ensures middles_after { groups.new.middles ≡ sets groups.old.middles 0 (listed (middle_in table.now count tanks.now.nodes) tanks.now.count) }
     ensures links_after { groups.new.links ≡ sets groups.old.links 0 (joined (group_in table.now count tanks.now.nodes) tanks.now.count) }

@@ -1,9 +1,13 @@
 -- `driver_tables::lay_out` meets its contract. Assumes nothing.
 use mathlib.Core.Path.{refl}
 use borrow.Author.Rules.{rules}
+use Rattle.run_tables.proofs.Inside.{tanks_distinct}
 use Rattle.solver.proofs.ByTable.{laid_is}
 use Rattle.driver_tables.proofs.Laying.{times_there}
 use Rattle.driver_tables.proofs.lay_out.Goals as goal
+
+pub lay_groups-requires-clause-distinct : goal.lay_groups-requires-clause-distinct
+lay_groups-requires-clause-distinct c = tanks_distinct c.tank_table-tanks.ensures
 
 pub returns : goal.returns
 returns c = λ fit.

@@ -4,7 +4,7 @@ use mathlib.Core.Path.{◌≡◌, ◌∙◌}
 use native.Mathlib.Omega.{arith}
 use borrow.Author.Rules.{rules}
 use lib.ListN.{length-set}
-use Rattle.run_tables.proofs.Inside.{inside, distinct}
+use Rattle.run_tables.proofs.Inside.{inside}
 use Rattle.run_tables.proofs.Pushing.{push, push_none, byte}
 use Rattle.run_tables.proofs.nodes.nodes_where.Goals as goal
 
@@ -28,8 +28,7 @@ loop-i-preserved g c =
 pub invariant_of-result : goal.invariant_of-result
 invariant_of-result g c =
     let q : c.loop-i.i ≡ c.args.n = omega (arith, c.loop-i.auto.i-end, c.loop-i-test.false) in
-    let p = c.loop-i.invariant.pushed in
-    record { inside = inside p (omega (arith, c.requires.1)); distinct = distinct p }
+    record { inside = inside c.loop-i.invariant.pushed (omega (arith, c.requires.1)) }
 
 pub returns : goal.returns
 returns g c = let q : c.loop-i.i ≡ c.args.n = omega (arith, c.loop-i.auto.i-end, c.loop-i-test.false) in rw (← q) c.loop-i.invariant.pushed

@@ -1,12 +1,13 @@
 -- `solver::closing::update_tank_links` meets its contract: the table is laid out for the project's tanks. Assumes nothing.
 use borrow.Author.Rules.{rules}
+use Rattle.run_tables.proofs.Inside.{tanks_distinct}
 use Rattle.tank_links.proofs.Judging.{Stands, stands, ends_inside}
 use Rattle.solver.proofs.ByTable.{groups_inside, laid_is, closed_by_is}
 use Rattle.solver.proofs.closing.update_tank_links.Goals.{After-lay_groups}
 use Rattle.solver.proofs.closing.update_tank_links.Goals as goal
 
 pub lay_groups-requires : goal.lay_groups-requires
-lay_groups-requires c = ends_inside c.args.p c.requires
+lay_groups-requires c = record { ends_inside = ends_inside c.args.p c.requires; distinct = tanks_distinct c.tank_table-t.ensures }
 
 there : (c : After-lay_groups) → Stands c.args.p c.lay_groups.new.groups.begins c.lay_groups.new.groups.middles c.lay_groups.new.groups.links
 there c =

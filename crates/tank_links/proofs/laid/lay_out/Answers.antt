@@ -1,8 +1,12 @@
 -- `tank_links::laid::lay_out` meets its contract: the tanks are the project's, so their groups are. Assumes nothing.
 use mathlib.Core.Path.{ap, ◌∙◌}
 use lib.Seq.{sets}
+use Rattle.run_tables.proofs.Inside.{distinct}
 use Rattle.tank_links.proofs.Judging.{begins_are, middles_are, entries_are}
 use Rattle.tank_links.proofs.laid.lay_out.Goals as goal
+
+pub lay_groups-requires-clause-distinct : goal.lay_groups-requires-clause-distinct
+lay_groups-requires-clause-distinct c = distinct c.tank_nodes-tanks.ensures
 
 pub returns : goal.returns
 returns c =
