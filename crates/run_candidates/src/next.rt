@@ -8,7 +8,7 @@ ghost use Rattle.run_candidates.specs.Next.{or_smaller, next_time, next_clock, n
 use clock::{clock_candidate, smaller_positive, time_candidate};
 use number::constants::MAX;
 use run_kinds::{Calls, Levels, Seconds};
-use run_tables::TankTable;
+use run_tables::{TankTable, tank_at};
 use tank::{CubicFeetPerSecond, Feet};
 
 // Over the seconds of one kind, from a first value.
@@ -41,22 +41,24 @@ pub fn next_clock(s: &Seconds, clock: u64, from: u64) -> u64
     smallest(s, from, |at| clock_candidate(at, clock))
 }
 
-// Level controls.
+// Level controls: a call waits for tank tanks[i], which stands at node nodes[tanks[i]], to be at targets[i].
 pub fn next_level(
     l: &Levels,
-    t: &TankTable,
+    nodes: &[u32; 256],
+    numbers: &[f64; 1280],
+    overflows: &[u32; 256],
     heads: &[f64; 256],
     demands: &[f64; 256],
     from: u64,
 ) -> u64
-    requires { LevelsInside l.now.tanks l.now.count t.now.at.nodes }
-    ensures { result ≡ next_level l.now.tanks l.now.targets l.now.count t.now.at.nodes t.now.numbers t.now.overflows heads.now demands.now from }
+    requires { LevelsInside l.now.tanks l.now.count nodes.now }
+    ensures { result ≡ next_level l.now.tanks l.now.targets l.now.count nodes.now numbers.now overflows.now heads.now demands.now from }
 {
     let mut smallest = from;
     for i in 0..l.count {
         let k = l.tanks[i] as usize;
-        let j = t.at.nodes[k] as usize;
-        let tank = t.tank(k);
+        let j = nodes[k] as usize;
+        let tank = tank_at(numbers, overflows, k);
         let wait = tank.time_to_reach_level(
             Feet(heads[j] - tank.elevation.0),
             Feet(l.targets[i]),
@@ -81,7 +83,15 @@ pub fn control_time(
         (next_time calls.now.times.seconds calls.now.times.count time
         (next_level calls.now.levels.tanks calls.now.levels.targets calls.now.levels.count t.now.at.nodes t.now.numbers t.now.overflows heads.now demands.now MAX)) }
 {
-    let by_level = next_level(&calls.levels, t, heads, demands, MAX);
+    let by_level = next_level(
+        &calls.levels,
+        &t.at.nodes,
+        &t.numbers,
+        &t.overflows,
+        heads,
+        demands,
+        MAX,
+    );
     next_clock(
         &calls.clocks,
         clock,

@@ -1,5 +1,5 @@
 -- The seconds of one kind of controls, listed in the order of the table: each turn adds what one control has. Assumes nothing.
-use Prim.Native.Nat.{ℕ, ◌+◌, ◌≤◌, ◌<◌}
+use Prim.Native.Nat.{ℕ, zero, suc, ◌+◌, ◌≤◌, ◌<◌}
 use mathlib.Core.Path.{◌≡◌, refl, sym, ap, ◌∙◌}
 use mathlib.Core.List.{List, [], ◌∷◌, ◌++◌, append-nil}
 use mathlib.Core.Logic.{⊎_elim}
@@ -71,3 +71,31 @@ clocks_are (at_time s ∷ ts) = clocks_are ts
 clocks_are (at_clock s ∷ ts) = ap (λ (xs : List ℕ). s ∷ xs) (clocks_are ts)
 clocks_are (at_level l ∷ ts) = clocks_are ts
 clocks_are (untimed ∷ ts) = clocks_are ts
+
+-- of a list of controls, what is found of each is the kind's list
+pub record Kind (in_list : List (Trigger Level) → List ℕ) (of : Trigger Level → Option ℕ) : Type 0 where
+  pub found : (ts : List (Trigger Level)) → filter_map of ts ≡ in_list ts
+
+pub times : Kind times_in time_of
+times = record { found = times_are }
+
+pub clocks : Kind clocks_in clock_of
+clocks = record { found = clocks_are }
+
+-- ---- no more are listed than there are controls
+one_most : (o : Option ℕ) → length (filter_map (λ x. x) (o ∷ [])) ≤ 1
+one_most None = omega arith
+one_most (Some x) = omega arith
+
+found_few : (of : Trigger Level → Option ℕ) (controls : List Control) (n : ℕ) → length (filter_map of (triggers_in controls n)) ≤ n
+unfolding listed
+found_few of controls zero = omega arith
+found_few of controls (suc n) =
+    let r : length (filter_map of (triggers_in controls n)) ≤ n = found_few of controls n in
+    let a = length-append (filter_map of (triggers_in controls n)) (filter_map of (trigger_in controls n ∷ [])) in
+    let o : length (filter_map of (trigger_in controls n ∷ [])) ≤ 1 = one_most (of (trigger_in controls n)) in
+    rw (filter_map-append of (triggers_in controls n) (trigger_in controls n ∷ [])) (omega (arith, r, a, o))
+
+pub laid_few : {in_list : List (Trigger Level) → List ℕ} {of : Trigger Level → Option ℕ} → Kind in_list of → (controls : List Control) (n : ℕ)
+    → {array : List ℕ} {count : ℕ} → Laid array count (in_list (triggers_in controls n)) → count ≤ n
+laid_few {in_list} {of} kind controls n h = omega (arith, h.count, ap length (kind.found (triggers_in controls n)), found_few of controls n)

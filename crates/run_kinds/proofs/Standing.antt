@@ -76,6 +76,17 @@ levels_by b (LowLevel i y) n x e = let q = some_pair_parts i n y x e in (q.0, rw
 levels_by b (Time s) n x e = absurd (none-some (n, x) e)
 levels_by b (ClockTime s) n x e = absurd (none-some (n, x) e)
 
+-- one at most
+pub levels_few : (b : Bool) (c : ControlCondition) → length (levels_at b c) ≤ 1
+levels_few b (HighPressure i x) = omega arith
+levels_few b (LowPressure i x) = omega arith
+levels_few true (HighLevel i x) = omega arith
+levels_few false (HighLevel i x) = omega arith
+levels_few true (LowLevel i x) = omega arith
+levels_few false (LowLevel i x) = omega arith
+levels_few b (Time s) = omega arith
+levels_few b (ClockTime s) = omega arith
+
 -- ---- one entry more
 more : {nodes : List ℕ} {m : ℕ} {xs : List Level} {tanks : List ℕ} {targets : List Float} {count k w : ℕ} (x : Float)
     → LevelsHeld xs nodes m tanks targets count → count < length tanks → count < length targets → k < m → get_or nodes k 0 ≡ w
@@ -166,6 +177,24 @@ module _ {controls : List Control} {nodes : List ℕ} {among : ℕ} where
         few = omega (arith, h.few);
         held = rw (last controls nodes among i, l.1, l.0, u.stands) (more x h.held (omega (arith, h.few, h.long)) (omega (arith, h.few, h.wide)) f.0 f.1);
       }
+
+-- no more than there are controls
+levels_most : (controls : List Control) (nodes : List ℕ) (among n : ℕ) → length (levels_of controls n nodes among) ≤ n
+unfolding listed levels_in
+levels_most controls nodes among zero = omega arith
+levels_most controls nodes among (suc n) =
+    let r : length (levels_of controls n nodes among) ≤ n = levels_most controls nodes among n in
+    rw (levels_last (λ v. stands_at nodes among v.tank) (triggers_in controls n) (trigger_in controls n), levels_alone nodes among (at controls n))
+    (omega (
+      arith,
+      r,
+      length-append (levels_of controls n nodes among) (levels_at (stands_at nodes among (watched (at controls n))) (at controls n)),
+      levels_few (stands_at nodes among (watched (at controls n))) (at controls n),
+    ))
+
+pub levels_laid_few : (controls : List Control) (n : ℕ) (nodes : List ℕ) (among : ℕ) {tanks : List ℕ} {targets : List Float} {count : ℕ}
+    → LevelsLaid controls n nodes among tanks targets count → count ≤ n
+levels_laid_few controls n nodes among h = omega (arith, h.many, levels_most controls nodes among n)
 
 -- a pass may read what is laid
 pub levels_inside : {xs : List Level} {nodes : List ℕ} {among : ℕ} {tanks : List ℕ} {targets : List Float} {count : ℕ}

@@ -5,11 +5,12 @@ ghost use Rattle.run_kinds.specs.Levels.{LevelsLaid};
 ghost use Rattle.run_kinds.specs.Triggers.{triggers_in};
 
 use crate::levels::{Levels, level_calls};
-use crate::times::{Seconds, clock_of, seconds_where, time_of};
+use crate::times::{Seconds, clock_calls, time_calls};
 use model::*;
 use run_tables::NodeList;
 
 // What the controls call for a step to end at.
+#[repr(C)]
 #[derive(Clone, Copy)]
 pub struct Calls {
     pub levels: Levels,
@@ -26,7 +27,7 @@ pub fn calls_of(controls: &[Control; 64], n: usize, tanks: &NodeList) -> Calls
 {
     Calls {
         levels: level_calls(controls, n, tanks),
-        times: seconds_where(controls, n, time_of),
-        clocks: seconds_where(controls, n, clock_of),
+        times: time_calls(controls, n),
+        clocks: clock_calls(controls, n),
     }
 }

@@ -6,6 +6,7 @@ use model::*;
 use run_tables::NodeList;
 
 // Call i waits for tank tanks[i] of the tank table to be at targets[i]; what stands past the count is free.
+#[repr(C)]
 #[derive(Clone, Copy)]
 pub struct Levels {
     pub count: usize,

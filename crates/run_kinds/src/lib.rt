@@ -5,5 +5,5 @@ mod levels;
 mod times;
 
 pub use calls::{Calls, calls_of};
-pub use levels::Levels;
-pub use times::{Seconds, clock_of, time_of};
+pub use levels::{Levels, level_calls};
+pub use times::{Seconds, clock_calls, clock_of, time_calls, time_of};

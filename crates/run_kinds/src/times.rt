@@ -3,12 +3,13 @@ ghost use Rattle.std.specs.Prelude.{ℕ, ◌≡◌, ◌≤◌, Option, filter_ma
 ghost use Rattle.clock.specs.Triggers.{Trigger};
 ghost use Rattle.control.specs.Controls.{Level, trigger_of};
 ghost use Rattle.model.specs.declared.control.ControlCondition.{ControlCondition};
-ghost use Rattle.run_kinds.specs.Calls.{time_of, clock_of, Laid};
+ghost use Rattle.run_kinds.specs.Calls.{time_of, clock_of, times_in, clocks_in, Laid};
 ghost use Rattle.run_kinds.specs.Triggers.{triggers_in};
 
 use model::*;
 
 // What stands past the count is free.
+#[repr(C)]
 #[derive(Clone, Copy)]
 pub struct Seconds {
     pub count: usize,
@@ -57,4 +58,20 @@ pub fn seconds_where<F: Fn(ControlCondition) -> Option<u32>>(
         }
     }
     Seconds { count, seconds }
+}
+
+// The times of the first n controls.
+pub fn time_calls(controls: &[Control; 64], n: usize) -> Seconds
+    requires { n ≤ 64 }
+    ensures { Laid result.seconds result.count (times_in (triggers_in controls.now n)) }
+{
+    seconds_where(controls, n, time_of)
+}
+
+// The clock times of the first n controls.
+pub fn clock_calls(controls: &[Control; 64], n: usize) -> Seconds
+    requires { n ≤ 64 }
+    ensures { Laid result.seconds result.count (clocks_in (triggers_in controls.now n)) }
+{
+    seconds_where(controls, n, clock_of)
 }

@@ -6,3 +6,4 @@ mod taking;
 
 pub use fault::LoadFault;
 pub use table::LoadTable;
+pub use taking::{load_fault, sum_inflows, take_flows, take_heads};

@@ -5,6 +5,7 @@ ghost use Rattle.run_loads.specs.Taking.{JunctionsInside, LinksInside};
 use run_tables::NodeList;
 
 // How many links there are, and at which node each starts and ends; the junctions; and of each node whether it is a tank, which is 1, else 0.
+#[repr(C)]
 #[derive(Clone, Copy)]
 pub struct LoadTable {
     pub links: usize,

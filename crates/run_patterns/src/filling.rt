@@ -4,7 +4,7 @@ ghost use Rattle.pattern_view.specs.View.{multiplier_in_force};
 ghost use Rattle.run_patterns.specs.Filling.{multipliers_filled, demand_sum, demands_filled, heads_filled, demands_copied};
 
 use pattern_view::multiplier_in_force;
-use run_sources::{DemandTable, HeadTable, PatternTables};
+use run_sources::{DemandTable, HeadTable};
 
 // The multiplier in force of the pattern whose multipliers begin at a place, by a view of them; none stand past the table's end.
 fn pattern_multiplier(
@@ -24,16 +24,18 @@ fn pattern_multiplier(
 
 // The multiplier of each pattern at an instant, and 1 at 32 for none.
 pub fn fill_multipliers(
-    t: &PatternTables,
+    lengths: &[u32; 32],
     multipliers: &[f64; 5376],
+    start: u32,
+    timestep: u32,
     time: u32,
     table: &mut [f64; 33],
 )
-    ensures { table.new ≡ multipliers_filled t.now.lengths multipliers.now t.now.start t.now.timestep time table.old }
+    ensures { table.new ≡ multipliers_filled lengths.now multipliers.now start timestep time table.old }
 {
     for k in 0..32 {
-        let length = t.lengths[k];
-        table[k] = pattern_multiplier(multipliers, k * 168, length, t.start, t.timestep, time);
+        let length = lengths[k];
+        table[k] = pattern_multiplier(multipliers, k * 168, length, start, timestep, time);
     }
     table[32] = 1.0;
 }

@@ -22,7 +22,7 @@ pub fn fill_patterns(
     ensures links_stay { lists.new.links ≡ lists.old.links }
     ensures clock_stays { lists.new.clock ≡ lists.old.clock }
 {
-    fill_multipliers(t, multipliers, time, table);
+    fill_multipliers(&t.lengths, multipliers, t.start, t.timestep, time, table);
     fill_demands(&t.demands, table, t.scale, &mut lists.demands);
     fill_heads(&t.heads, table, &mut lists.heads);
     if t.pda {

@@ -26,6 +26,7 @@ pub struct Row {
 
 // Six words and four numbers each.
 // kept: rows in two arrays, as `row_at` (edit `row_of_six`) and the theorem `apply_controls_is` have them.
+#[repr(C)]
 #[derive(Clone, Copy)]
 pub struct ControlTable {
     pub count: usize,
@@ -35,23 +36,31 @@ pub struct ControlTable {
 }
 
 impl ControlTable {
-    // Control i: six words from 6 * i on, four numbers from 4 * i on.
+    // Control i.
     pub fn row(&self, i: usize) -> Row
         requires { i < 64 }
         ensures { result ≡ row_at self.now.words self.now.numbers i }
     {
-        Row {
-            kind: self.words[6 * i],
-            node: self.words[6 * i + 1],
-            link: self.words[6 * i + 2],
-            seconds: self.words[6 * i + 3],
-            action: self.words[6 * i + 4],
-            status: self.words[6 * i + 5],
-            elevation: self.numbers[4 * i],
-            target: self.numbers[4 * i + 1],
-            setting: self.numbers[4 * i + 2],
-            flow: self.numbers[4 * i + 3],
-        }
+        row_at(&self.words, &self.numbers, i)
+    }
+}
+
+// Control i of any words and numbers: six words from 6 * i on, four numbers from 4 * i on.
+pub fn row_at(words: &[u32; 384], numbers: &[f64; 256], i: usize) -> Row
+    requires { i < 64 }
+    ensures { result ≡ row_at words.now numbers.now i }
+{
+    Row {
+        kind: words[6 * i],
+        node: words[6 * i + 1],
+        link: words[6 * i + 2],
+        seconds: words[6 * i + 3],
+        action: words[6 * i + 4],
+        status: words[6 * i + 5],
+        elevation: numbers[4 * i],
+        target: numbers[4 * i + 1],
+        setting: numbers[4 * i + 2],
+        flow: numbers[4 * i + 3],
     }
 }
 

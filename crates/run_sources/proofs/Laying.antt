@@ -44,7 +44,7 @@ listed_most (Two a b) = omega arith
 listed_most (Three a b c) = omega arith
 listed_most (Four a b c d) = omega arith
 
-demands_most : (k : NodeType) → length (demands_in k) ≤ 4
+pub demands_most : (k : NodeType) → length (demands_in k) ≤ 4
 demands_most (Reservoir r) = omega arith
 demands_most (Tank t) = omega arith
 demands_most (Junction j) = by j.disabled

@@ -8,6 +8,7 @@ use model::*;
 
 // Node i has counts[i] demands; demand j of it stands at 4 * i + j: its base, and the place of its pattern.
 // kept: bases and patterns in arrays of their own, as `demands_filled` and the theorem `demand_is` have them.
+#[repr(C)]
 #[derive(Clone, Copy)]
 pub struct DemandTable {
     pub count: usize,

@@ -8,6 +8,7 @@ use run_tables::{NodeList, nodes_where};
 
 // Reservoir r of them stands at node at.nodes[r]: its elevation, and the place of its pattern.
 // kept: elevations and patterns in arrays of their own, as `heads_filled` and the theorem `fill_heads_is` have them.
+#[repr(C)]
 #[derive(Clone, Copy)]
 pub struct HeadTable {
     pub at: NodeList,

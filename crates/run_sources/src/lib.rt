@@ -8,14 +8,13 @@ mod heads;
 mod lengths;
 mod places;
 
-pub use demands::DemandTable;
-use demands::demand_table;
-pub use heads::HeadTable;
-use heads::head_table;
-use lengths::pattern_lengths;
+pub use demands::{DemandTable, demand_table};
+pub use heads::{HeadTable, head_table};
+pub use lengths::pattern_lengths;
 use model::*;
 
 // All that the patterns of an instant go by, but the multipliers.
+#[repr(C)]
 #[derive(Clone, Copy)]
 pub struct PatternTables {
     pub lengths: [u32; 32],

@@ -7,6 +7,7 @@ ghost use Rattle.run_tables.specs.Held.{Pushed, TanksInside};
 use model::*;
 
 // Nodes of a table; what stands past the count is free.
+#[repr(C)]
 #[derive(Clone, Copy)]
 pub struct NodeList {
     pub count: usize,

@@ -8,12 +8,14 @@ ghost use Rattle.run_tables.specs.Rows.{tank_at};
 ghost use Rattle.run_tables.specs.Tanks.{tank_in};
 
 use crate::nodes::{NodeList, nodes_where};
+use crate::rows::tank_at;
 use model::*;
 use tank::{Feet, Tank};
 
 // Tank k stands at node at.nodes[k]; its numbers are the five from 5 * k on: elevation, initial, least and greatest level, diameter; overflows[k] is 1
 // where it may overflow, else 0.
 // kept: numbers and overflows in arrays of their own, as `tank_at` and the edits `row_of_six`, `row_greatest` and `table_least` have them.
+#[repr(C)]
 #[derive(Clone, Copy)]
 pub struct TankTable {
     pub at: NodeList,
@@ -27,14 +29,7 @@ impl TankTable {
         requires { k < 256 }
         ensures { result ≡ tank_at self.now.numbers self.now.overflows k }
     {
-        Tank {
-            elevation: Feet(self.numbers[5 * k]),
-            initial_level: Feet(self.numbers[5 * k + 1]),
-            min_level: Feet(self.numbers[5 * k + 2]),
-            max_level: Feet(self.numbers[5 * k + 3]),
-            diameter: Feet(self.numbers[5 * k + 4]),
-            overflow: self.overflows[k] != 0,
-        }
+        tank_at(&self.numbers, &self.overflows, k)
     }
 }
 

@@ -8,7 +8,7 @@ pub loop-i-init : goal.loop-i-init
 loop-i-init c = begun
 
 pub loop-i-preserved : goal.loop-i-preserved
-loop-i-preserved c = turned c.loop-i.invariant c.loop-i-test.true (rw (c.smaller_positive-smallest.ensures, c.time_to_reach_level-wait.ensures, c.tank-tank.ensures))
+loop-i-preserved c = turned c.loop-i.invariant c.loop-i-test.true (rw (c.smaller_positive-smallest.ensures, c.time_to_reach_level-wait.ensures, c.tank_at-tank.ensures))
 
 pub returns : goal.returns
 unfolding next_level
