@@ -67,15 +67,15 @@ pub record Turns (p : Project) (s : State) (input : List ℕ) (whole-input : Boo
   pub going : Going p s input whole-input before after state used written false wants
 
 -- no more bytes are taken than are left
-pub taken_fits : {bytes : List ℕ} {t : LoadTable} {tanks : NodeList} {x y : Lists} {r : Result ℕ LoadFault} → LoadedAs bytes t tanks x y r
+pub taken_fits : {bytes : List ℕ} {count : ℕ} {t : LoadTable} {tanks : NodeList} {x y : Lists} {r : Result ℕ LoadFault} → LoadedAs bytes count t tanks x y r
     → (taken : ℕ) → r ≡ Ok taken → taken ≤ length bytes
 taken_fits (none z) taken q = let e : taken ≡ 0 = cc in omega (arith, e)
 taken_fits (cut some k) taken q = absurd (cc)
 taken_fits (faulty some k f e) taken q = absurd (cc)
 taken_fits (whole some k z after e size long) taken q = let e : taken ≡ size = cc in omega (arith, e, long, k)
 
-pub taken_inside : (input : List ℕ) (used : ℕ) {t : LoadTable} {tanks : NodeList} {x y : Lists} {r : Result ℕ LoadFault}
-    → LoadedAs (take (length input - used) (drop used input)) t tanks x y r → (taken : ℕ) → r ≡ Ok taken → used ≤ length input → used + taken ≤ length input
+pub taken_inside : (input : List ℕ) (used : ℕ) {count : ℕ} {t : LoadTable} {tanks : NodeList} {x y : Lists} {r : Result ℕ LoadFault}
+    → LoadedAs (take (length input - used) (drop used input)) count t tanks x y r → (taken : ℕ) → r ≡ Ok taken → used ≤ length input → used + taken ≤ length input
 taken_inside input used l taken q k =
     let n : length (drop used input) ≤ length input - used = omega (arith, length-drop used input) in
     omega (arith, taken_fits l taken q, ap length (take_all (length input - used) (drop used input) n), length-drop used input)
@@ -170,11 +170,20 @@ module _ {p : Project} {s : State} {t : Tables} {multipliers : List Float} {a₀
           (stay : d.links ≡ a.links) (still : d.clock ≡ a.clock)
           {hour : ℕ} (hour_is : hour ≡ clock_time t.times.start_clock a.clock.instant)
           (controls : l ≡ links_after t.controls.words t.controls.numbers t.controls.count d.heads a.clock.instant hour d.links)
-          {x : Lists} {r : Result ℕ LoadFault}
-          (loaded : LoadedAs (take (length input - used) (drop used input)) t.load t.tanks.at
+          {count : ℕ} (many : count ≡ values_by t.load) {x : Lists} {r : Result ℕ LoadFault}
+          (loaded : LoadedAs (take (length input - used) (drop used input)) count t.load t.tanks.at
           (record { heads = d.heads; demands = d.demands; demand_flows = d.demand_flows; links = l; clock = d.clock }) x r) where
         controls_are : l ≡ links_after t.controls.words t.controls.numbers t.controls.count d.heads a.clock.instant (clock_time t.times.start_clock a.clock.instant) d.links
         controls_are = controls ∙ ap (λ (h : ℕ). links_after t.controls.words t.controls.numbers t.controls.count d.heads a.clock.instant h d.links) hour_is
+
+        loaded_is : LoadedAs (take (length input - used) (drop used input)) (values_by t.load) t.load t.tanks.at
+            (record { heads = d.heads; demands = d.demands; demand_flows = d.demand_flows; links = l; clock = d.clock }) x r
+        loaded_is =
+            subst
+            (λ (n : ℕ).
+            LoadedAs (take (length input - used) (drop used input)) n t.load t.tanks.at
+            (record { heads = d.heads; demands = d.demands; demand_flows = d.demand_flows; links = l; clock = d.clock }) x r)
+            many loaded
 
         soon : now.clock.instant < p.options.duration
         soon = omega (arith, early, duration_is, now_instant)
@@ -187,7 +196,7 @@ module _ {p : Project} {s : State} {t : Tables} {multipliers : List Float} {a₀
             → end ≡ text.after after written (line_text (Line.refused number)) → later ≡ text.put after written (line_text (Line.refused number))
             → TurnsRan p s input whole-input before later (record { state = st; used = used; written = end; over = true; wants = wants })
         turns_refused f z {number} n {st} q {end} {later} u v =
-            let made = made_refused b.laid b.same b.whole now a table long in-force g.meets soon patterns stay still controls_are _ loaded f z current_is in
+            let made = made_refused b.laid b.same b.whole now a table long in-force g.meets soon patterns stay still controls_are _ loaded_is f z current_is in
             rw (packed_is st made.next q made.met.held)
             (ended made.next (Line.refused (load_fault_number f)) (on_rest made.turned)
             (u ∙ ap (λ (k : ℕ). text.after after written (line_text (Line.refused k))) n) (v ∙ ap (λ (k : ℕ). text.put after written (line_text (Line.refused k))) n))
@@ -197,7 +206,7 @@ module _ {p : Project} {s : State} {t : Tables} {multipliers : List Float} {a₀
             (placed : end ≡ text.after after written (line_text (Line.step a.clock.instant seconds)))
             (put : later ≡ text.put after written (line_text (Line.step a.clock.instant seconds))) where
           made : MadeBy p now (take (length input - used) (drop used input)) arrays current taken (Line.step a.clock.instant seconds) false
-          made = rw steps (made_step b.laid b.same b.whole now a table long in-force g.meets soon patterns stay still controls_are _ loaded taken z lasts current_is)
+          made = rw steps (made_step b.laid b.same b.whole now a table long in-force g.meets soon patterns stay still controls_are _ loaded_is taken z lasts current_is)
 
           done : TurnedAs (turn p now (drop used input)) written after later (record { state = made.next; taken = taken; at = end; last = false })
           done = turned_as (on_rest made.turned) (stepped_as room made.next taken (Line.step a.clock.instant seconds) placed put)

@@ -78,7 +78,8 @@ pub fn advance(
     let mut table = [1.0; 33];
     let mut in_force = MAX;
     let duration = t.options.duration;
-    let size = (1 + 2 * t.load.count()) * 4;
+    let numbers = t.load.count();
+    let size = (1 + 2 * numbers) * 4;
     let mut used = 0;
     let mut written = 0;
     let mut wants = wants_input(duration, lists.clock.instant, whole, input.len(), size);
@@ -95,7 +96,7 @@ pub fn advance(
             &mut lists,
         );
         apply_controls(&t.controls, &lists.heads, time, hour, &mut lists.links);
-        let taken = match load_left(&input[used..], &t.load, &t.tanks.at, &mut lists) {
+        let taken = match load_left(&input[used..], numbers, &t.load, &t.tanks.at, &mut lists) {
             Ok(taken) => taken,
             Err(fault) => {
                 let end = listing::put_refused_line(out, written, fault.number());
@@ -108,7 +109,7 @@ pub fn advance(
                 };
             }
         };
-        let length = step(t, &mut lists);
+        let length = step(t.times, &t.tanks, &t.groups, &t.calls, &mut lists);
         written = listing::put_step_line(out, written, time, length);
         used += taken;
         wants = wants_input(

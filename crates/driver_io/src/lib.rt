@@ -6,7 +6,7 @@ ghost use Rattle.std.specs.Prelude.{◌-◌, ◌≤◌, ◌≡◌, true, ◌++�
 ghost use Rattle.tables.specs.Fit.{TablesFit};
 ghost use Rattle.tables.specs.Tables.{tables_ok};
 ghost use Rattle.state.specs.Starting.{start_from};
-ghost use Rattle.driver_tables.specs.Laid.{Laid, PartsInside};
+ghost use Rattle.driver_tables.specs.Laid.{Laid, LaidFrom, PartsInside};
 ghost use Rattle.driver_chunk.specs.Chunks.{RunOf};
 ghost use Rattle.driver_io.specs.Held.{Filled};
 
@@ -192,7 +192,8 @@ fn no_project() -> Project {
 #[inline(never)]
 fn tables_of(p: &Project) -> Tables
     requires { PartsInside p.now.counts p.now.links p.now.controls }
-    ensures { TablesFit p.now → Laid p.now result }
+    ensures from { LaidFrom p.now.options p.now.counts p.now.lengths p.now.nodes p.now.links p.now.controls result }
+    ensures laid { TablesFit p.now → Laid p.now result }
 {
     lay_out(p)
 }

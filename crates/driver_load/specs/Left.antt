@@ -19,15 +19,15 @@ abbrev pub words_for : ℕ → ℕ
 words_for count = 1 + 2 * count
 
 -- the words of a load at the front of some bytes
-abbrev pub words_left : LoadTable → List ℕ → List ℕ
-words_left t bytes = first_words (words_for (values_by t)) bytes
+abbrev pub words_left : ℕ → List ℕ → List ℕ
+words_left count bytes = first_words (words_for count) bytes
 
 -- no byte is left; a load cut by the end; one with a fault; one that is taken, with its bytes
-pub data LoadedAs (bytes : List ℕ) (t : LoadTable) (tanks : NodeList) (before : Lists) : Lists → Result ℕ LoadFault → Type 0 where
-  none : length bytes ≡ 0 → LoadedAs bytes t tanks before before (Ok 0)
-  cut : (length bytes ≡ 0 → ⊥) → length bytes < words_for (values_by t) * 4 → LoadedAs bytes t tanks before before (Err faults.Shape)
-  faulty : (length bytes ≡ 0 → ⊥) → words_for (values_by t) * 4 ≤ length bytes
-      → (f : LoadFault) → load_fault_number f ≡ fault_of (values_by t) (words_left t bytes) → LoadedAs bytes t tanks before before (Err f)
-  whole : (length bytes ≡ 0 → ⊥) → words_for (values_by t) * 4 ≤ length bytes → 0 ≡ fault_of (values_by t) (words_left t bytes)
-      → (after : Lists) → after ≡ lists_loaded (words_left t bytes) t tanks before → (size : ℕ) → size ≡ words_for (values_by t) * 4
-      → LoadedAs bytes t tanks before after (Ok size)
+pub data LoadedAs (bytes : List ℕ) (count : ℕ) (t : LoadTable) (tanks : NodeList) (before : Lists) : Lists → Result ℕ LoadFault → Type 0 where
+  none : length bytes ≡ 0 → LoadedAs bytes count t tanks before before (Ok 0)
+  cut : (length bytes ≡ 0 → ⊥) → length bytes < words_for count * 4 → LoadedAs bytes count t tanks before before (Err faults.Shape)
+  faulty : (length bytes ≡ 0 → ⊥) → words_for count * 4 ≤ length bytes
+      → (f : LoadFault) → load_fault_number f ≡ fault_of count (words_left count bytes) → LoadedAs bytes count t tanks before before (Err f)
+  whole : (length bytes ≡ 0 → ⊥) → words_for count * 4 ≤ length bytes → 0 ≡ fault_of count (words_left count bytes)
+      → (after : Lists) → after ≡ lists_loaded (words_left count bytes) t tanks before → (size : ℕ) → size ≡ words_for count * 4
+      → LoadedAs bytes count t tanks before after (Ok size)

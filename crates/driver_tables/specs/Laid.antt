@@ -1,9 +1,12 @@
 -- Needs no belief: what the tables of a run hold, as a reading of them gives it, against the project that they are laid out from.
-use Rattle.std.specs.Prelude.{◌≡◌, true, List}
+use Rattle.std.specs.Prelude.{ℕ, ◌≡◌, true, List}
 use Rattle.model.specs.declared.control.Control.{Control}
 use Rattle.model.specs.declared.link.Link.{Link}
+use Rattle.model.specs.declared.node.Node.{Node}
+use Rattle.model.specs.declared.options.Options.{Options}
 use Rattle.model.specs.declared.project.Counts.{Counts}
 use Rattle.model.specs.declared.project.Project.{Project}
+use Rattle.tables.specs.Fit.{TablesFit}
 use Rattle.tables.specs.Tables.{Few}
 use Rattle.simulation.specs.Steps.{times_of}
 use Rattle.run_tables.specs.Held.{TanksLaid}
@@ -24,6 +27,15 @@ pub record PartsInside (c : Counts) (links : List Link) (controls : List Control
   pub ends : EndsInside links c.links
   pub controls_inside : ControlsInside controls c.controls
 
+-- the parts are those of a project
+pub record From (p : Project) (o : Options) (c : Counts) (lengths : List ℕ) (nodes : List Node) (links : List Link) (controls : List Control) : Type 0 where
+  pub options : p.options ≡ o
+  pub counts : p.counts ≡ c
+  pub lengths_are : p.lengths ≡ lengths
+  pub nodes_are : p.nodes ≡ nodes
+  pub links_are : p.links ≡ links
+  pub controls_are : p.controls ≡ controls
+
 -- the tables are a project's
 pub record Laid (p : Project) (t : Tables) : Type 0 where
   pub options : t.options ≡ p.options
@@ -36,6 +48,10 @@ pub record Laid (p : Project) (t : Tables) : Type 0 where
   pub levels : LevelsLaid p.controls p.counts.controls t.tanks.at.nodes t.tanks.at.count t.calls.levels.tanks t.calls.levels.targets t.calls.levels.count
   pub patterns : PatternsLaid p.options p.lengths p.nodes p.counts.nodes t.patterns
   pub load : LoadLaid p.nodes p.counts.nodes p.links p.counts.links t.load
+
+-- of every project that has these parts
+abbrev pub LaidFrom : Options → Counts → List ℕ → List Node → List Link → List Control → Tables → Type 0
+LaidFrom o c lengths nodes links controls t = (p : Project) → From p o c lengths nodes links controls → TablesFit p → Laid p t
 
 -- ---- what a step asks of the tables: the indices that it takes from them are inside
 pub record TablesInside (t : Tables) : Type 0 where

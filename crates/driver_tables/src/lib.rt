@@ -1,7 +1,7 @@
 #![tactic(auto)]
 // The tables of a run: all that its steps read of a project but the patterns' multipliers, laid out once as arrays of numbers.
 ghost use Rattle.tables.specs.Fit.{TablesFit};
-ghost use Rattle.driver_tables.specs.Laid.{PartsInside, Laid};
+ghost use Rattle.driver_tables.specs.Laid.{PartsInside, Laid, LaidFrom};
 
 use clock::Times;
 use model::{Options, Project};
@@ -28,10 +28,11 @@ pub struct Tables {
     pub load: LoadTable,
 }
 
-// Of a project.
+// Of a project; and so of every other that differs in its premises or its multipliers alone, since neither is read.
 pub fn lay_out(p: &Project) -> Tables
     requires { PartsInside p.now.counts p.now.links p.now.controls }
-    ensures { TablesFit p.now → Laid p.now result }
+    ensures from { LaidFrom p.now.options p.now.counts p.now.lengths p.now.nodes p.now.links p.now.controls result }
+    ensures laid { TablesFit p.now → Laid p.now result }
 {
     let counts = p.counts;
     let options = p.options;

@@ -66,7 +66,7 @@ module _ {p : Project} {t : Tables} (laid : Laid p t) (fit : TablesFit p) where
 
   module _ (s : State) (e : in_order p s ≡ true) (bytes : List ℕ) where
     abbrev words : List ℕ
-    words = words_left t.load bytes
+    words = words_left (values_by t.load) bytes
 
     words_are : words ≡ first_words (load_words p) bytes
     words_are = ap (λ (n : ℕ). first_words n bytes) words_by
@@ -89,7 +89,7 @@ module _ {p : Project} {t : Tables} (laid : Laid p t) (fit : TablesFit p) where
       loaded_held : {b : Lists} → b ≡ lists_loaded words t.load t.tanks.at a → b ≡ lists_of (take_load p (first_words (load_words p) bytes) s)
       loaded_held q = rw (q, h, words_are) (take_load_is t.load t.tanks.at fit laid.load laid.tanks (first_words (load_words p) bytes) s long)
 
-      pub looked : {b : Lists} {r : Result ℕ LoadFault} → LoadedAs bytes t.load t.tanks.at a b r → Looked p s bytes r b
+      pub looked : {b : Lists} {r : Result ℕ LoadFault} → LoadedAs bytes (values_by t.load) t.load t.tanks.at a b r → Looked p s bytes r b
       looked (none z) = same (λ taken q. let n : 0 ≡ taken = cc in input_none p s bytes z ∙ ap (step_turn p s) n) (λ f q. absurd (cc))
       looked (cut some k) =
           same (λ taken q. absurd (cc))

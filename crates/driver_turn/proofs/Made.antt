@@ -36,7 +36,7 @@ use Rattle.state.proofs.Patterned.{period_of, patterned_clock}
 use Rattle.solver.specs.Closing.{update_tank_links}
 use Rattle.simulation.specs.Steps.{next_hydraulic_timestep}
 use Rattle.calls_sound.proofs.Step.{step_in_order}
-use Rattle.driver_load.specs.Left.{LoadedAs}
+use Rattle.driver_load.specs.Left.{LoadedAs, values_by}
 use Rattle.driver_load.proofs.Inner.{fit}
 use Rattle.driver_tables.specs.Laid.{Laid}
 use Rattle.driver_tables.specs.declared.Tables.{Tables}
@@ -117,7 +117,7 @@ module _ {p : Project} {t : Tables} (laid : Laid p t) {multipliers : List Float}
   goes : turn p s bytes ≡ input_turn p ready bytes
   goes = turn_goes p s bytes before (sym ready_is)
 
-  module _ {d : Lists} {r : Result ℕ LoadFault} (loaded : LoadedAs bytes t.load t.tanks.at handed d r) where
+  module _ {d : Lists} {r : Result ℕ LoadFault} (loaded : LoadedAs bytes (values_by t.load) t.load t.tanks.at handed d r) where
     k : Looked p ready bytes r d
     k = looked laid fits ready ready_ordered bytes handed ready_held (ready_alike.nodes ∙ m.nodes) loaded
 

@@ -32,7 +32,7 @@ loop-table-init c = record {
   long = refl;
   room = omega arith;
   inside = omega arith;
-  turns = λ p s b. turns_begun b (c.wants_input-wants.ensures ∙ rw c.count.ensures);
+  turns = λ p s b. turns_begun b (c.wants_input-wants.ensures ∙ rw c.count-numbers.ensures);
 }
 
 pub step-length-requires : goal.step-length-requires
@@ -50,14 +50,14 @@ pub loop-table-smaller : goal.loop-table-smaller
 loop-table-smaller c =
     let tested = can_now c.loop-table.wants (length c.loop-table.out - c.loop-table.written) c.loop-table.lists.clock.instant c.args.t.now.options.duration c.can_step.ensures c.loop-table-test.true in
     let b = begins c.args.s c.told-multipliers c.well_formed.1.1.0.1.1.0.1.0.1 c.well_formed.1.1.0.1.1.1.0.1.0.1 c.of-lists.ensures c.requires.project c.requires.laid c.requires.same c.requires.ordered in
-    turns_less b (c.loop-table.invariant.turns c.requires.project c.args.s b) tested.0 tested.1 c.loop-table.table c.loop-table.invariant.wide c.apply_patterns-in_force.ensures.value c.apply_patterns-in_force.ensures.lists_after c.apply_patterns-in_force.ensures.links_stay c.apply_patterns-in_force.ensures.clock_stays c.clock_time-hour.ensures c.apply_controls.ensures c.load_left.ensures c.in-Ok.taken c.in-Ok.is c.step-length.ensures.value c.step-length.ensures.lists_after c.put_step_line-written.ensures.value c.put_step_line-written.ensures.buf_after
+    turns_less b (c.loop-table.invariant.turns c.requires.project c.args.s b) tested.0 tested.1 c.loop-table.table c.loop-table.invariant.wide c.apply_patterns-in_force.ensures.value c.apply_patterns-in_force.ensures.lists_after c.apply_patterns-in_force.ensures.links_stay c.apply_patterns-in_force.ensures.clock_stays c.clock_time-hour.ensures c.apply_controls.ensures c.count-numbers.ensures c.load_left.ensures c.in-Ok.taken c.in-Ok.is c.step-length.ensures.value c.step-length.ensures.lists_after c.put_step_line-written.ensures.value c.put_step_line-written.ensures.buf_after
 
 pub loop-table-preserved : goal.loop-table-preserved
 loop-table-preserved c =
     let tested = can_now c.loop-table.wants (length c.loop-table.out - c.loop-table.written) c.loop-table.lists.clock.instant c.args.t.now.options.duration c.can_step.ensures c.loop-table-test.true in
     let next = λ (p : Project) (s : State) (b : Begins p s c.args.t.now c.args.multipliers.now c.of-lists.result).
-    turns_step b (c.loop-table.invariant.turns p s b) tested.0 tested.1 c.loop-table.table c.loop-table.invariant.wide c.apply_patterns-in_force.ensures.value c.apply_patterns-in_force.ensures.lists_after c.apply_patterns-in_force.ensures.links_stay c.apply_patterns-in_force.ensures.clock_stays c.clock_time-hour.ensures c.apply_controls.ensures c.load_left.ensures c.in-Ok.taken c.in-Ok.is c.step-length.ensures.value c.step-length.ensures.lists_after c.put_step_line-written.ensures.value c.put_step_line-written.ensures.buf_after
-    (c.wants_input-wants-in-loop-table.ensures ∙ rw c.count.ensures) in
+    turns_step b (c.loop-table.invariant.turns p s b) tested.0 tested.1 c.loop-table.table c.loop-table.invariant.wide c.apply_patterns-in_force.ensures.value c.apply_patterns-in_force.ensures.lists_after c.apply_patterns-in_force.ensures.links_stay c.apply_patterns-in_force.ensures.clock_stays c.clock_time-hour.ensures c.apply_controls.ensures c.count-numbers.ensures c.load_left.ensures c.in-Ok.taken c.in-Ok.is c.step-length.ensures.value c.step-length.ensures.lists_after c.put_step_line-written.ensures.value c.put_step_line-written.ensures.buf_after
+    (c.wants_input-wants-in-loop-table.ensures ∙ rw c.count-numbers.ensures) in
     let here = next c.requires.project c.args.s (begins c.args.s c.told-multipliers c.well_formed.1.1.0.1.1.0.1.0.1 c.well_formed.1.1.0.1.1.1.0.1.0.1 c.of-lists.ensures c.requires.project c.requires.laid c.requires.same c.requires.ordered) in
     record {
       wide = c.apply_patterns-in_force.array_long;
@@ -71,7 +71,7 @@ pub returns-in-Err : goal.returns-in-Err
 returns-in-Err c = λ p laid same ordered.
     let tested = can_now c.loop-table.wants (length c.loop-table.out - c.loop-table.written) c.loop-table.lists.clock.instant c.args.t.now.options.duration c.can_step.ensures c.loop-table-test.true in
     let b = begins c.args.s c.told-multipliers c.well_formed.1.1.0.1.1.0.1.0.1 c.well_formed.1.1.0.1.1.1.0.1.0.1 c.of-lists.ensures p laid same ordered in
-    turns_refused b (c.loop-table.invariant.turns p c.args.s b) tested.0 tested.1 c.loop-table.table c.loop-table.invariant.wide c.apply_patterns-in_force.ensures.value c.apply_patterns-in_force.ensures.lists_after c.apply_patterns-in_force.ensures.links_stay c.apply_patterns-in_force.ensures.clock_stays c.clock_time-hour.ensures c.apply_controls.ensures c.load_left.ensures _ c.in-Err.is c.number.ensures c.state.ensures c.put_refused_line-end.ensures.value c.put_refused_line-end.ensures.buf_after
+    turns_refused b (c.loop-table.invariant.turns p c.args.s b) tested.0 tested.1 c.loop-table.table c.loop-table.invariant.wide c.apply_patterns-in_force.ensures.value c.apply_patterns-in_force.ensures.lists_after c.apply_patterns-in_force.ensures.links_stay c.apply_patterns-in_force.ensures.clock_stays c.clock_time-hour.ensures c.apply_controls.ensures c.count-numbers.ensures c.load_left.ensures _ c.in-Err.is c.number.ensures c.state.ensures c.put_refused_line-end.ensures.value c.put_refused_line-end.ensures.buf_after
 
 pub returns-then-can_turn : goal.returns-then-can_turn
 returns-then-can_turn c = λ p laid same ordered.

@@ -10,4 +10,4 @@ pub start_of-start-requires : goal.start_of-start-requires
 start_of-start-requires g c = let f = (tables_fit c.args.p.now c.requires.accepted).few in (f.nodes, f.links)
 
 pub run-requires-clause-run_of : goal.run-requires-clause-run_of
-run-requires-clause-run_of g c = run_of c.requires.accepted c.tables_of.ensures c.start_of-start.ensures
+run-requires-clause-run_of g c = run_of c.requires.accepted c.tables_of.ensures.laid c.start_of-start.ensures
