@@ -137,7 +137,7 @@ class Sources(unittest.TestCase):
         named = {f"{path}::{name}" for path, names, _ in uses for name in re.findall(r"[\w*]+", names)}
         named |= {path + star for path, names, star in uses if not names}
         named = {name for name in named if not name.startswith(("crate::", "step::"))}
-        types = {"awaited::Awaited", "calls::StepCalled", "clock::Clock", "clock::Times", "model::*"}
+        types = {"calls::StepCalled", "clock::Clock", "clock::Times", "model::*"}
         reading = {"awaited::awaited_by", "judge::in_order", "simulation::no_tanks", "simulation::times_of"}
         self.assertEqual(named - types, reading)
         # Nothing else by its path, and no method: those of Clock and Times are the driver's arithmetic.

@@ -8,7 +8,7 @@ pub loop-i-init : goal.loop-i-init
 loop-i-init c = begun
 
 pub loop-i-preserved : goal.loop-i-preserved
-loop-i-preserved c = turned c.loop-i.invariant c.loop-i-test.true (rw (c.eq.ensures, c.eq-in-loop-i.ensures))
+loop-i-preserved c = turned c.loop-i.invariant c.loop-i-test.true refl
 
 pub returns : goal.returns
 unfolding any_calls

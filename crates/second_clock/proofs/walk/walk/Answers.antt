@@ -28,18 +28,17 @@ stops_then-requires c = let f = c.requires.times_fit in (f.report, f.pattern)
 pub returns-then-stops_then : goal.returns-then-stops_then
 returns-then-stops_then c =
     let a = c.args in
-    let w = c.awaited_by-awaited.result in
     let l = c.loop-instant in
-    let told = stop_told a.o w.times w.clocks a.count a.from l.instant l.seconds l.invariant.at c.any_calls-called.ensures c.stops_then.ensures in
+    let told = stop_told a.o c.words_of-times.result c.words_of-clocks.result a.count a.from l.instant l.seconds l.invariant.at c.any_calls-called.ensures c.stops_then.ensures in
     going_stops l.invariant c.loop-instant-test.true told c.if-stops_then.true
-    ∙ walk_by_is a.o a.controls.now a.count a.from w c.requires.times_fit c.requires.count_bound c.awaited_by-awaited.ensures
+    ∙ walk_by_is a.o a.controls.now a.count a.from c.awaited_by-awaited.result c.requires.times_fit c.requires.count_bound c.awaited_by-awaited.ensures
+    c.words_of-times.ensures c.words_of-clocks.ensures
 
 pub loop-instant-preserved : goal.loop-instant-preserved
 loop-instant-preserved c =
     let a = c.args in
-    let w = c.awaited_by-awaited.result in
     let l = c.loop-instant in
-    let told = stop_told a.o w.times w.clocks a.count a.from l.instant l.seconds l.invariant.at c.any_calls-called.ensures c.stops_then.ensures in
+    let told = stop_told a.o c.words_of-times.result c.words_of-clocks.result a.count a.from l.instant l.seconds l.invariant.at c.any_calls-called.ensures c.stops_then.ensures in
     going_turned l.invariant c.loop-instant-test.true told c.if-stops_then.false
 
 pub returns : goal.returns
@@ -47,3 +46,4 @@ returns c =
     let a = c.args in
     going_ended c.loop-instant.invariant c.loop-instant-test.false
     ∙ walk_by_is a.o a.controls.now a.count a.from c.awaited_by-awaited.result c.requires.times_fit c.requires.count_bound c.awaited_by-awaited.ensures
+    c.words_of-times.ensures c.words_of-clocks.ensures
