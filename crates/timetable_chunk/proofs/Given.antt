@@ -4,7 +4,7 @@ use mathlib.Core.Path.{◌≡◌, refl, ◌∙◌}
 use mathlib.Core.Bool.{Bool, true, false, cond, ◌&&◌}
 use mathlib.Core.List.{List, [], ◌∷◌}
 use native.Mathlib.Omega.{arith}
-use lib.ListN.{length, take, drop, get_or, length-append}
+use lib.ListN.{length, take, drop, get_or, length-append, length-drop, length-take}
 use lib.Seq.{take_at}
 use Rattle.listing.specs.Listing.{steps_line, refused_line}
 use Rattle.listing.specs.Text.{put, after, pasted}
@@ -59,6 +59,18 @@ module _ (p : Project) (instant : ℕ) (old : List ℕ) where
       go true true us = omega (arith, length-append (take (length old) us) (drop (length (take (length old) us)) old))
       go true false us = tt
       go false b us = tt
+
+  -- the list that is lent keeps its length
+  pub written_same : length (stops_written p instant old) ≡ length old
+  unfolding stops_given stops_written
+  written_same = go (tables_ok p && stops_foreseen p)
+    where
+      us : List ℕ
+      us = take (length old) (stops_of p instant)
+
+      go : (b : Bool) → length (fronted (cond b us []) old) ≡ length old
+      go true = omega (arith, length-append us (drop (length us) old), length-drop (length us) old, length-take (length old) (stops_of p instant))
+      go false = refl
 
   module _ (count : ℕ) (full : length old ≡ 4096) where
     pub answered_text : answer_text (next_stops p instant (length old)) (stops_written p instant old) count ≡ chunk_text p instant count

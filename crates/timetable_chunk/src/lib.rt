@@ -99,11 +99,11 @@ fn put_answer(
 }
 
 // The chunk above an instant, where count stops lie up to it.
-pub fn advance(p: Project, instant: u32, count: u32, out: &mut [u8; 65536]) -> Chunk
-    ensures value { result ≡ chunk_of p instant count }
-    ensures out_after { out.new ≡ pasted out.old 0 (chunk_text p instant count) }
+pub fn advance(p: &Project, instant: u32, count: u32, out: &mut [u8; 65536]) -> Chunk
+    ensures value { result ≡ chunk_of p.now instant count }
+    ensures out_after { out.new ≡ pasted out.old 0 (chunk_text p.now instant count) }
 {
     let mut instants = [0u32; 4096];
-    let answer = next_stops(p, instant, &mut instants);
+    let answer = next_stops(*p, instant, &mut instants);
     put_answer(answer, &instants, instant, count, out)
 }

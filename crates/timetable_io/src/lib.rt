@@ -23,8 +23,9 @@ fn refuse<W: Write>(n: u32, out: &mut [u8], to: &mut W) -> io::Result<()> {
     write(to, out, k)
 }
 
-// The chunks of a project.
-fn write_chunks<W: Write>(p: Project, out: &mut [u8; 65536], to: &mut W) -> io::Result<()> {
+// The chunks of a project. Inlined, the copies that each chunk is made from would stand on the stack beside the making of an empty project.
+#[inline(never)]
+fn write_chunks<W: Write>(p: &Project, out: &mut [u8; 65536], to: &mut W) -> io::Result<()> {
     let mut instant = 0;
     let mut count = 0;
     'chunks: loop {
@@ -38,6 +39,12 @@ fn write_chunks<W: Write>(p: Project, out: &mut [u8; 65536], to: &mut W) -> io::
     }
 }
 
+// Tables with nothing in them. Inlined, they would stand on the stack three times.
+#[inline(never)]
+fn no_project() -> Project {
+    Project::empty()
+}
+
 // Reads an image and writes its timetable, or the number of its fault.
 pub fn tabulate<R: Read, W: Write>(
     bytes: &mut [u8; 65536],
@@ -46,9 +53,10 @@ pub fn tabulate<R: Read, W: Write>(
     to: &mut W,
 ) -> io::Result<()> {
     let n = replay_input::read_image(from, bytes, table)?;
-    let read = image::decode(&table[..n]);
-    if let Some(fault) = read.fault {
+    // Lent from the place that it is answered to: a local of its own would be a copy on the stack.
+    let project = &mut no_project();
+    if let Err(fault) = image::decode_into(&table[..n], project) {
         return refuse(fault.number(), bytes, to);
     }
-    write_chunks(read.project, bytes, to)
+    write_chunks(project, bytes, to)
 }

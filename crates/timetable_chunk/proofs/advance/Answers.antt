@@ -11,7 +11,7 @@ zeros = replicate 4096 0
 
 pub put_answer-requires-clause-within : goal.put_answer-requires-clause-within
 unfolding zeros
-put_answer-requires-clause-within c = let s = c.next_stops-answer.ensures in rw (s.value, s.out_after) (answered_within c.args.p c.args.instant zeros)
+put_answer-requires-clause-within c = let s = c.next_stops-answer.ensures in rw (s.value, s.out_after) (answered_within c.args.p.now c.args.instant zeros)
 
 pub returns : goal.returns
 unfolding zeros
@@ -20,4 +20,4 @@ returns c =
     let s = c.next_stops-answer.ensures in
     let r = c.put_answer.ensures in
     let full = length-replicate {A = ℕ} 4096 0 in
-    record { value = r.value ∙ rw (s.value, s.out_after) (answered_chunk a.p a.instant zeros a.count full); out_after = r.out_after ∙ rw (s.value, s.out_after, answered_text a.p a.instant zeros a.count full) }
+    record { value = r.value ∙ rw (s.value, s.out_after) (answered_chunk a.p.now a.instant zeros a.count full); out_after = r.out_after ∙ rw (s.value, s.out_after, answered_text a.p.now a.instant zeros a.count full) }

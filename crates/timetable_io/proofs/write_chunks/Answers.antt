@@ -9,7 +9,7 @@ use Rattle.timetable_io.proofs.write_chunks.Goals as goal
 pub write-requires : goal.write-requires
 write-requires g c =
     let l = c.chunks in
-    omega (arith, ap (λ (x : Chunk). x.written) c.advance-c.ensures.value, chunk_short c.args.p l.instant l.count)
+    omega (arith, ap (λ (x : Chunk). x.written) c.advance-c.ensures.value, chunk_short c.args.p.now l.instant l.count)
 
 pub chunks-smaller : goal.chunks-smaller
-chunks-smaller g c = less_left c.args.p c.chunks.instant c.chunks.count _ c.advance-c.ensures.value c.if-c.false
+chunks-smaller g c = less_left c.args.p.now c.chunks.instant c.chunks.count _ c.advance-c.ensures.value c.if-c.false
