@@ -12,7 +12,7 @@ use judge::in_order;
 use model::*;
 pub use refusal::Refusal;
 use tables::tables_ok;
-use tank_links::LinkGroups;
+pub use tank_links::LinkGroups;
 
 // The number, 0 where the call is accepted, and the state.
 // kept: document 01 asks for a struct beside the answer where arrays are held; calls_sound and demand3 speak of its number.

@@ -2,6 +2,7 @@
 ghost use Rattle.std.specs.Prelude.{◌≡◌};
 ghost use Rattle.clock.specs.Steps.{advanced};
 
+#[repr(C)]
 #[derive(Clone, Copy)]
 pub struct Clock {
     pub instant: u32,

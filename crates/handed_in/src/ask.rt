@@ -1,10 +1,9 @@
 // Every call asked on tables, a state and a table of the tanks' links, and its number printed.
 use crate::groups::lay_out_number;
-use calls::Refusal;
+use calls::{LinkGroups, Refusal};
 use model::*;
 use std::io;
 use stops_ahead::{NoStops, next_stop};
-use tank_links::LinkGroups;
 
 pub fn print(rt: &impl Print, n: u32) -> io::Result<()> {
     print!(rt; " {n}")

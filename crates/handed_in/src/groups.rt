@@ -1,10 +1,9 @@
 // The table of the tanks' links: laid out over words that show where nothing was written, printed, and changed by one word.
 use crate::ask::print;
 use crate::change::Change;
-use calls::Refusal;
+use calls::{LinkGroups, Refusal};
 use model::Project;
 use std::io;
-use tank_links::LinkGroups;
 
 // What each word is before the table is laid out.
 const MARKER: u32 = 4294967295;

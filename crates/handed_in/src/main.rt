@@ -14,6 +14,7 @@ mod project;
 mod states;
 
 use ask::print_numbers;
+use calls::LinkGroups;
 use change::Change;
 use groups::{changed_table, laid_out, print_table};
 use model::*;
@@ -22,7 +23,6 @@ use replay_input::read_full;
 use states::changed_state;
 use std::io;
 use std::io::Read;
-use tank_links::LinkGroups;
 
 const MOST_IMAGES: u32 = 1000;
 

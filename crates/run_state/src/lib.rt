@@ -7,6 +7,7 @@ use clock::Clock;
 use model::*;
 
 // Of the links.
+#[repr(C)]
 #[derive(Clone, Copy)]
 pub struct Links {
     pub flows: [f64; 384],
@@ -15,6 +16,7 @@ pub struct Links {
 }
 
 // Of a state: what its nodes and its links hold, and its clock.
+#[repr(C)]
 #[derive(Clone, Copy)]
 pub struct Lists {
     pub heads: [f64; 256],

@@ -12,6 +12,7 @@ use model::*;
 use run_tables::{NodeList, tank_nodes};
 
 // The table: where each tank's links begin, and behind the last; where those out of it begin; and the links.
+#[repr(C)]
 #[derive(Clone, Copy)]
 pub struct LinkGroups {
     pub begins: [u32; 257],
