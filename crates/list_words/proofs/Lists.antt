@@ -6,7 +6,7 @@ use mathlib.Core.List.{List, [], ◌∷◌}
 use native.Mathlib.Omega.{arith}
 use lib.Dec.{eqb, leb}
 use borrow.Author.Tests.{leb-true}
-use lib.ListN.{length, take, drop, length-drop}
+use lib.ListN.{length, take, drop, length-drop, drop_of_length-le}
 use lib.Seq.{take_all}
 use Rattle.model.proofs.Loops.{both_right}
 use Rattle.image_entry.specs.Words.{word}
@@ -33,6 +33,11 @@ load_length words code is e = rw (← is, e)
 
 pub load_whole : (words : List ℕ) (code : ℕ) → code ≡ word words 0 → code ≡ 3 → call_ok words ≡ true → 2 + word words 1 ≤ length words
 load_whole words code is e ok = omega (arith, ok_whole words ok, load_length words code is e)
+
+-- ---- no words are left
+pub calls_end : (words : List ℕ) (at : ℕ) → length words ≤ at → calls_of 0 (drop at words) ≡ []
+unfolding calls_of
+calls_end words at h = rw (drop_of_length-le words h)
 
 -- ---- the words of a call passed over
 calls_skip : (ws : List ℕ) (n : ℕ) → calls_of n ws ≡ calls_of 0 (drop n ws)
